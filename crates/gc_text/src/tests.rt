@@ -1,0 +1,1 @@
+// What no clause says: that ample input is answered, at values from outside.
