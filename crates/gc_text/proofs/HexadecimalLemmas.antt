@@ -1,10 +1,13 @@
--- Lower-case hexadecimal text: what it reads as, and that it is the one spelling.
-use Rattle.std.proofs.Common.{◌≡◌, ℕ, zero, suc, ◌+◌, ◌-◌, ◌*◌, ◌/◌, ◌%◌, ◌^◌, ◌<◌, ◌≤◌, List, [], ◌∷◌, ◌++◌, length, take, drop, Result, Ok, Err, true, refl, sym, ap, ◌∙◌, arith}
-use Rattle.std.proofs.lemmas.List.Elements.{All-cons, All-head, All-nil, All-tail}
-use Rattle.std.specs.List.{AllPass}
+-- Lower-case hexadecimal text: the one spelling of its bytes.
+use Rattle.std.proofs.Common.{◌≡◌, ℕ, zero, suc, ◌+◌, ◌-◌, ◌*◌, ◌/◌, ◌%◌, ◌^◌, ◌<◌, ◌≤◌, ◌==◌, ◌&&◌, ◌⊎◌, inl, inr, Bool, true, List, [], ◌∷◌, ◌++◌, length, drop, slice_index, Result, Ok, Err, refl, sym, ap, ◌∙◌, arith}
+use Rattle.std.specs.Prelude.{MatchResult, nat_le, nat_lt, if◌then◌else◌}
+use Rattle.std.proofs.lemmas.Bool.{and_parts, cases_eq, cases_lt, eqb-true, leb-true, or_cases}
+use Rattle.std.proofs.lemmas.List.Elements.{All-cons, All-head, All-nil, All-tail, All-weaker}
 use Rattle.std.specs.Int.{w64, byte_at, bytes_high_first, to_be_bytes}
-use Rattle.hex.specs.Hex.{IsBytes, decode_of, encode_lower, encode_with, is_hex_digit, lower_digits}
-use Rattle.hex.proofs.HexLemmas.{length-encode_with}
+use Rattle.std.specs.List.{AllPass}
+use Rattle.hex.proofs.HexLemmas.{decode_sized-encode_lower, length-encode_with}
+use Rattle.hex.specs.Hex.{IsBytes, decode_sized, encode_lower, encode_with, lower_digits}
+use Rattle.hex.specs.declared.error.FromHexError.{FromHexError}
 use Rattle.gc_text.specs.Hexadecimal.{hex16, hex_of, is_lower_digit}
 
 -- a text has two digits for each byte
@@ -24,3 +27,99 @@ IsBytes-bytes_high_first (suc k) n (suc i) = IsBytes-bytes_high_first k n i
 
 pub IsBytes-to_be_bytes : (n : ℕ) → IsBytes (to_be_bytes w64 n)
 IsBytes-to_be_bytes n = IsBytes-bytes_high_first 8 n
+
+-- ---- the sixteen digits
+
+-- a test that each number below n passes
+abbrev passes_below : (ℕ → Bool) → ℕ → Bool
+passes_below p zero = true
+passes_below p (suc n) = p n && passes_below p n
+
+passes_below-at : (p : ℕ → Bool) (n d : ℕ) → passes_below p n ≡ true → d < n → p d ≡ true
+passes_below-at p zero d h lt = absurd (omega arith)
+passes_below-at p (suc n) d h lt =
+    let parts = and_parts (p n) (passes_below p n) h in
+    elim (cases_lt d n) [
+      | inl below ↦ passes_below-at p n d parts.1 below
+      | inr top ↦ let e : d ≡ n = omega arith in rw e parts.0
+    ]
+
+-- the digit of d, by arithmetic
+abbrev digit_of : ℕ → ℕ
+digit_of d = if nat_lt d 10 then d + 48 else d + 87
+
+digit-digit_of : (d : ℕ) → d < 16 → slice_index lower_digits d ≡ digit_of d
+digit-digit_of d lt = eqb-true _ _ (passes_below-at (λ k. slice_index lower_digits k == digit_of k) 16 d refl lt)
+
+is_lower_digit-digit : (d : ℕ) → d < 16 → is_lower_digit (slice_index lower_digits d) ≡ true
+is_lower_digit-digit d lt = passes_below-at (λ k. is_lower_digit (slice_index lower_digits k)) 16 d refl lt
+
+-- each lower-case digit is the digit of some number
+place_of : (c : ℕ) → is_lower_digit c ≡ true → (d : ℕ) × (d < 16) × (slice_index lower_digits d ≡ c)
+place_of c h =
+    elim (or_cases (nat_le 48 c && nat_le c 57) (nat_le 97 c && nat_le c 102) h) [
+      | inl number ↦
+          let parts = and_parts (nat_le 48 c) (nat_le c 57) number in
+          let low = leb-true 48 c parts.0 in
+          let high = leb-true c 57 parts.1 in
+          let e : digit_of (c - 48) ≡ c = grind arith in
+          (c - 48, omega arith, digit-digit_of (c - 48) (omega arith) ∙ e)
+      | inr letter ↦
+          let parts = and_parts (nat_le 97 c) (nat_le c 102) letter in
+          let low = leb-true 97 c parts.0 in
+          let high = leb-true c 102 parts.1 in
+          let e : digit_of (c - 87) ≡ c = grind arith in
+          (c - 87, omega arith, digit-digit_of (c - 87) (omega arith) ∙ e)
+    ]
+
+-- ---- which texts are spellings
+
+-- the fact of `AllPass is_lower_digit`
+abbrev lower_holds : ℕ → Type 0
+lower_holds c = is_lower_digit c ≡ true
+
+-- the text of bytes is lower-case digits
+pub AllPass-hex_of : (bytes : List ℕ) → IsBytes bytes → AllPass is_lower_digit (hex_of bytes)
+unfolding encode_with
+AllPass-hex_of [] h = All-nil lower_holds
+AllPass-hex_of (b ∷ rest) h =
+    let fits : b < 256 = h 0 in
+    All-cons lower_holds _ _ (is_lower_digit-digit (b / 16) (omega arith))
+    (All-cons lower_holds _ _ (is_lower_digit-digit (b % 16) (omega arith)) (AllPass-hex_of rest (λ k. h (suc k))))
+
+-- a byte in front of bytes
+IsBytes-cons : (b : ℕ) (rest : List ℕ) → b < 256 → IsBytes rest → IsBytes (b ∷ rest)
+IsBytes-cons b rest h hs zero = h
+IsBytes-cons b rest h hs (suc i) = hs i
+
+-- lower-case digits, an even number of them, are the text of some bytes
+pub spelled_bytes : (t : List ℕ) → length t % 2 ≡ 0 → AllPass is_lower_digit t
+    → (bytes : List ℕ) × (IsBytes bytes) × (t ≡ hex_of bytes)
+unfolding encode_with
+spelled_bytes [] even h = ([], (λ k. omega arith), refl)
+spelled_bytes (a ∷ []) even h = absurd (omega arith)
+spelled_bytes (a ∷ b ∷ rest) even h =
+    let tail = All-tail lower_holds a (b ∷ rest) h in
+    let high = place_of a (All-head lower_holds a (b ∷ rest) h) in
+    let low = place_of b (All-head lower_holds b rest tail) in
+    let more = spelled_bytes rest (omega arith) (All-tail lower_holds b rest tail) in
+    let front : (high.0 * 16 + low.0) / 16 ≡ high.0 = omega (arith, high.1, low.1) in
+    let back : (high.0 * 16 + low.0) % 16 ≡ low.0 = omega (arith, high.1, low.1) in
+    (
+      (high.0 * 16 + low.0) ∷ more.0,
+      IsBytes-cons _ more.0 (omega (arith, high.1, low.1)) more.1,
+      rw (front, back, high.2, low.2) (ap (λ s. a ∷ b ∷ s) more.2),
+    )
+
+-- ---- what the reader of bytes answers
+
+-- what `decode_to_slice` says, at room for all the bytes of the text
+abbrev pub Decodes : List ℕ → ℕ → Result Unit FromHexError → List ℕ → Type 0
+Decodes t n r out = MatchResult (decode_sized t n) (λ bytes. (r ≡ Ok tt) × (out ≡ bytes)) (λ e. r ≡ Err e)
+
+-- it writes the bytes of the text
+pub Decodes-hex_of : (bytes : List ℕ) (n : ℕ) (r : Result Unit FromHexError) (out : List ℕ) → length bytes ≡ n → IsBytes bytes
+    → Decodes (hex_of bytes) n r out → out ≡ bytes
+Decodes-hex_of bytes n r out same are h =
+    let e = decode_sized-encode_lower bytes n same are in
+    (rw e at h).1

@@ -1,5 +1,5 @@
 // Hexadecimal numbers and bytes, read from their one spelling.
-ghost use Rattle.std.specs.Prelude.{◌≡◌, ◌↔◌, ◌*◌, ◌^◌, ◌<◌, ◌≤◌, ◌++◌, ℕ, List, Some, IfNone, IfSome, IsTrue, drop, length, take};
+ghost use Rattle.std.specs.Prelude.{◌≡◌, ◌↔◌, ◌/◌, ◌%◌, ◌^◌, ◌<◌, ◌≤◌, ◌++◌, ℕ, List, Some, IfNone, IfSome, IsTrue, drop, length, take};
 ghost use Rattle.std.specs.List.{AllPass};
 ghost use Rattle.hex.specs.Hex.{IsBytes};
 ghost use Rattle.gc_text.specs.Hexadecimal.{hex16, hex_of, is_lower_digit};
@@ -34,12 +34,21 @@ pub fn read_hex_into(t: &[u8], to: &mut [u8]) -> Option<usize>
     ensures back { (bytes : List ℕ) → IsBytes bytes → length bytes ≤ length to.old → t.now ≡ hex_of bytes
         → (result ≡ Some (length bytes)) × (to.new ≡ bytes ++ drop (length bytes) to.old) }
 {
-    let count = t.len() / 2;
-    if t.len() % 2 != 0 || count > to.len() || !t.iter().all(|c| is_lower_digit(*c)) {
+    if !is_spelling(t, to.len()) {
         return None;
     }
-    hex::decode_to_slice(t, &mut to[..count]).ok()?;
+    let count = t.len() / 2;
+    // No error can come, since the digits and their number are right.
+    let _ = hex::decode_to_slice(t, &mut to[..count]);
     Some(count)
+}
+
+// Whether a text is an even number of lower-case digits, of no more bytes than there is room for.
+fn is_spelling(t: &[u8], room: usize) -> bool
+    ensures { IsTrue result ↔ ((length t.now % 2 ≡ 0) × (length t.now / 2 ≤ room)
+        × AllPass is_lower_digit t.now) }
+{
+    t.len() % 2 == 0 && t.len() / 2 <= room && t.iter().all(|c| is_lower_digit(*c))
 }
 
 #[inline]
