@@ -1,9 +1,11 @@
 -- Lower-case hexadecimal text: the one spelling of its bytes.
-use Rattle.std.proofs.Common.{◌≡◌, ℕ, zero, suc, ◌+◌, ◌-◌, ◌*◌, ◌/◌, ◌%◌, ◌^◌, ◌<◌, ◌≤◌, ◌==◌, ◌&&◌, ◌⊎◌, inl, inr, Bool, true, List, [], ◌∷◌, ◌++◌, length, drop, slice_index, Result, Ok, Err, refl, sym, ap, ◌∙◌, arith}
+use Rattle.std.proofs.Common.{◌≡◌, ℕ, zero, suc, ◌+◌, ◌-◌, ◌*◌, ◌/◌, ◌%◌, ◌^◌, ◌<◌, ◌≤◌, ◌==◌, ◌&&◌, ◌⊎◌, inl, inr, Bool, true, List, [], ◌∷◌, ◌++◌, length, take, drop, slice_index, Result, Ok, Err, refl, sym, ap, ◌∙◌, arith}
 use Rattle.std.specs.Prelude.{MatchResult, nat_le, nat_lt, if◌then◌else◌}
 use Rattle.std.proofs.lemmas.Bool.{and_parts, cases_eq, cases_lt, eqb-true, leb-true, or_cases}
 use Rattle.std.proofs.lemmas.List.Elements.{All-cons, All-head, All-nil, All-tail, All-weaker}
-use Rattle.std.specs.Int.{w64, byte_at, bytes_high_first, to_be_bytes}
+use Rattle.std.proofs.lemmas.List.{append-nil, drop_all, take_all}
+use Rattle.std.proofs.lemmas.Nat.{be_bytes_8, from_be_bytes-to_be_bytes_8}
+use Rattle.std.specs.Int.{w64, byte_at, bytes_high_first, from_be_bytes, to_be_bytes}
 use Rattle.std.specs.List.{AllPass}
 use Rattle.hex.proofs.HexLemmas.{decode_sized-encode_lower, length-encode_with}
 use Rattle.hex.specs.Hex.{IsBytes, decode_sized, encode_lower, encode_with, lower_digits}
@@ -84,8 +86,11 @@ unfolding encode_with
 AllPass-hex_of [] h = All-nil lower_holds
 AllPass-hex_of (b ∷ rest) h =
     let fits : b < 256 = h 0 in
-    All-cons lower_holds _ _ (is_lower_digit-digit (b / 16) (omega arith))
-    (All-cons lower_holds _ _ (is_lower_digit-digit (b % 16) (omega arith)) (AllPass-hex_of rest (λ k. h (suc k))))
+    let later = AllPass-hex_of rest (λ k. h (suc k)) in
+    let low = is_lower_digit-digit (b % 16) (omega arith) in
+    let high = is_lower_digit-digit (b / 16) (omega arith) in
+    let second = All-cons lower_holds (slice_index lower_digits (b % 16)) (hex_of rest) low later in
+    All-cons lower_holds (slice_index lower_digits (b / 16)) (slice_index lower_digits (b % 16) ∷ hex_of rest) high second
 
 -- a byte in front of bytes
 IsBytes-cons : (b : ℕ) (rest : List ℕ) → b < 256 → IsBytes rest → IsBytes (b ∷ rest)
@@ -111,15 +116,48 @@ spelled_bytes (a ∷ b ∷ rest) even h =
       rw (front, back, high.2, low.2) (ap (λ s. a ∷ b ∷ s) more.2),
     )
 
+-- an even number of lower-case digits, of no more bytes than there is room for
+abbrev pub IsSpelling : List ℕ → ℕ → Type 0
+IsSpelling t room = (length t % 2 ≡ 0) × (length t / 2 ≤ room) × AllPass is_lower_digit t
+
+-- the text of bytes is one
+pub IsSpelling-hex_of : (t bytes : List ℕ) (room : ℕ) → IsBytes bytes → length bytes ≤ room → t ≡ hex_of bytes → IsSpelling t room
+IsSpelling-hex_of t bytes room are fits e =
+    let len = length-hex_of bytes in
+    rw e (omega (arith, len), omega (arith, len, fits), AllPass-hex_of bytes are)
+
 -- ---- what the reader of bytes answers
 
--- what `decode_to_slice` says, at room for all the bytes of the text
+-- what `decode_to_slice` says at room for n bytes
 abbrev pub Decodes : List ℕ → ℕ → Result Unit FromHexError → List ℕ → Type 0
 Decodes t n r out = MatchResult (decode_sized t n) (λ bytes. (r ≡ Ok tt) × (out ≡ bytes)) (λ e. r ≡ Err e)
 
--- it writes the bytes of the text
-pub Decodes-hex_of : (bytes : List ℕ) (n : ℕ) (r : Result Unit FromHexError) (out : List ℕ) → length bytes ≡ n → IsBytes bytes
-    → Decodes (hex_of bytes) n r out → out ≡ bytes
-Decodes-hex_of bytes n r out same are h =
-    let e = decode_sized-encode_lower bytes n same are in
-    (rw e at h).1
+-- it writes the bytes of their text
+pub Decodes-hex_of : (t bytes : List ℕ) (n : ℕ) (r : Result Unit FromHexError) (out : List ℕ) → n ≡ length t / 2
+    → IsBytes bytes → t ≡ hex_of bytes → Decodes t n r out → out ≡ bytes
+Decodes-hex_of t bytes n r out half are e h =
+    let len = length-hex_of bytes in
+    let count : length bytes ≡ n = omega (arith, len, half, ap length e) in
+    let sized : decode_sized t n ≡ Ok bytes = rw e (decode_sized-encode_lower bytes n count are) in
+    (rw sized at h).1
+
+-- it writes bytes of which the text is the spelling
+pub Decodes-spelling : (t : List ℕ) (room n : ℕ) (r : Result Unit FromHexError) (out : List ℕ) → n ≡ length t / 2
+    → IsSpelling t room → Decodes t n r out → t ≡ hex_of out
+Decodes-spelling t room n r out half is h =
+    let bytes = spelled_bytes t is.0 is.2 in
+    let same = Decodes-hex_of t bytes.0 n r out half bytes.1 bytes.2 h in
+    rw same bytes.2
+
+-- ---- numbers of sixteen digits
+
+-- eight bytes that were read are the number's
+pub hex16-read : (t to : List ℕ) (n : ℕ) → length to ≡ 8 → t ≡ hex_of (take 8 to) → to_be_bytes w64 n ≡ to → t ≡ hex16 n
+hex16-read t to n len e bytes =
+    let whole : take 8 to ≡ to = take_all 8 to (omega arith) in
+    e ∙ ap hex_of (whole ∙ sym bytes)
+
+-- a number's bytes, once read, are that number
+pub to_be_bytes-read : (to : List ℕ) (n m : ℕ) → n < 2 ^ 64 → m < 2 ^ 64 → to ≡ to_be_bytes w64 n → to_be_bytes w64 m ≡ to → m ≡ n
+to_be_bytes-read to n m fits small e bytes =
+    sym (from_be_bytes-to_be_bytes_8 m small) ∙ ap (from_be_bytes w64) (bytes ∙ e) ∙ from_be_bytes-to_be_bytes_8 n fits
