@@ -109,8 +109,7 @@ spelled_bytes (a ∷ b ∷ rest) even h =
     let low = place_of b (All-head lower_holds b rest tail) in
     let more = spelled_bytes rest (omega arith) (All-tail lower_holds b rest tail) in
     let front : (high.0 * 16 + low.0) / 16 ≡ high.0 = omega (arith, high.1, low.1) in
-    let back : (high.0 * 16 + low.0) % 16 ≡ low.0 = omega (arith, high.1, low.1) in
-    (
+    let back : (high.0 * 16 + low.0) % 16 ≡ low.0 = omega (arith, high.1, low.1) in (
       (high.0 * 16 + low.0) ∷ more.0,
       IsBytes-cons _ more.0 (omega (arith, high.1, low.1)) more.1,
       rw (front, back, high.2, low.2) (ap (λ s. a ∷ b ∷ s) more.2),

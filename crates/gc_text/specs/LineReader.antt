@@ -1,6 +1,6 @@
 -- this project's own rule: a text is lines, each ended by a line feed
 use Rattle.std.specs.Prelude.{◌≢◌, ◌⊎◌, ◌≤◌, ◌<◌, ℕ, Bool, List, [], ◌==◌, length}
-use Rattle.std.specs.List.{before_first, after_first}
+use Rattle.std.specs.List.{before_first, after_first, slice_split}
 use Rattle.gc_text.specs.declared.line_buf.TheConstants.{MAX_LINE}
 
 -- what a reader has left of its text, and how many lines it gave
@@ -23,3 +23,7 @@ after_line text = after_first is_line_feed text
 -- a text that isn't empty, and the first line of which is too long or isn't ended
 abbrev pub IsFaulty : List ℕ → Type 0
 IsFaulty text = (text ≢ []) × ((MAX_LINE < length (first_line text)) ⊎ (length text ≤ length (first_line text)))
+
+-- the lines of a text: its parts between line feeds, the last of which is empty where the text is ended
+abbrev pub lines_of : List ℕ → List (List ℕ)
+lines_of text = slice_split is_line_feed text

@@ -2,11 +2,10 @@
 ghost use Rattle.std.specs.Prelude.{◌≡◌, ◌↔◌, ◌+◌, ◌-◌, ◌^◌, ◌<◌, ◌≤◌, [], Ok, None, IfErr, IfNone, IfOk, IfSome, IsErr, length, ◌⊎◌};
 ghost use Rattle.gc_text.specs.LineReader.{IsFaulty, after_line, first_line};
 
+use crate::line_buf::MAX_LINE;
 use memchr::memchr;
 use std::marker::Model;
 use thiserror::Error;
-
-use crate::line_buf::MAX_LINE;
 
 /// A line has more than `MAX_LINE` bytes or isn't ended by a line feed.
 #[derive(Clone, Copy, Debug, PartialEq, Eq, Error)]
