@@ -13,8 +13,8 @@ use Rattle.rv_step.specs.Csr.{csr_at, csr_write, change_writes}
 use Rattle.rv_step.specs.Branch.{condition_holds}
 use Rattle.rv_step.specs.Group.{group_of}
 use Rattle.rv_step.specs.Demand.{near_target, far_target, jump_need, group_need, need_of, decoded_need, need, IsNoTrap}
-use Rattle.rv_step.specs.Retire.{csr_step, csr_change, wait, group_finish, finish_of, decoded_finish, finish}
-use Rattle.rv_step.specs.Flat.{Outcome, load_number, store_end, store_ram, load_step, store_step, demand_step, trap_step, flat_step}
+use Rattle.rv_step.specs.Retire.{csr_step, wait, group_finish, finish_of, decoded_finish, finish}
+use Rattle.rv_step.specs.Flat.{Outcome, load_number, store_end, store_ram, load_step, store_step, demand_step, flat_step}
 use Rattle.rv_step.specs.FlatMem.{in_ram, ram_number}
 use Rattle.rv_step.specs.Valid.{IsValid}
 use Rattle.rv_step.specs.declared.arch.Arch.{Arch}

@@ -1,17 +1,20 @@
 // A step over flat memory: RAM, the UART and the exit device.
-ghost use Rattle.std.specs.Prelude.{◌≡◌, ◌<◌, ◌^◌, length, false, None};
-ghost use Rattle.rv_step.specs.Flat.{in_uart, in_exit, uart_number as uart_number_of, load_number as load_number_of, store_end, store_ram, silent as silent_of, flat_step};
+ghost use Rattle.std.specs.Prelude.{◌≡◌, ◌<◌, ◌^◌, length, false, Some, if◌then◌else◌};
+ghost use Rattle.rv_step.specs.Flat.{in_uart, in_exit, uart_number as uart_number_of, load_number as load_number_of, store_end, store_ram, silent as silent_of, demand_step, flat_step};
+ghost use Rattle.rv_step.specs.Demand.{need as need_of_word};
+ghost use Rattle.rv_table.specs.Inst.{HasRegisters};
+ghost use Rattle.rv_table.specs.Table.{decode_of};
 ghost use Rattle.rv_step.specs.Trap.{enter_trap as enter_trap_of};
 ghost use Rattle.rv_step.specs.Valid.{IsValid};
 ghost use Rattle.rv_step.specs.Width.{IsSize};
-ghost use Rattle.rv_step.specs.declared.flat.FlatEnd.TheVariants.{Trapped};
+ghost use Rattle.rv_step.specs.declared.flat.FlatEnd.TheVariants.{Retired, Trapped, Slept};
 
 use crate::arch::Arch;
 use crate::demand::{Demand, need_of};
 use crate::flat_mem::FlatMem;
 use crate::retire::finish_of;
 use crate::trap::{ILLEGAL_INSTRUCTION, INSTRUCTION_ACCESS, LOAD_ACCESS, STORE_ACCESS, enter_trap};
-use rv_table::decode;
+use rv_table::{Inst, decode};
 
 /// The address of the UART's offset 0, where a write is a byte for the console.
 const UART_BASE: u64 = 0x1000_0000;
@@ -124,10 +127,60 @@ fn trap(a: &mut Arch, cause: u64, tval: u64) -> FlatStep
     FlatEnd::Trapped.silent()
 }
 
+// how a wfi ends
+#[inline(always)]
+fn wait_end(asleep: bool) -> FlatEnd
+    ensures { result ≡ (if asleep then Slept else Retired) }
+{
+    if asleep {
+        FlatEnd::Slept
+    } else {
+        FlatEnd::Retired
+    }
+}
+
+// a step at the word w, which decodes to i
+#[inline(always)]
+#[tactic(auto, unfolding(crate::specs::Demand::need, crate::specs::Retire::finish))]
+fn decoded_step(a: &mut Arch, m: &mut FlatMem, i: &Inst, w: u32) -> FlatStep
+    requires decoded { decode_of w ≡ Some i.now }
+    requires registers { HasRegisters i.now }
+    ensures arch { a.new ≡ (demand_step (need_of_word a.old w) a.old m.old w).arch }
+    ensures ram { m.new ≡ (demand_step (need_of_word a.old w) a.old m.old w).ram }
+    ensures step { result ≡ (demand_step (need_of_word a.old w) a.old m.old w).step }
+    ensures size { length m.new ≡ length m.old }
+{
+    match need_of(a, i, w) {
+        Demand::Nothing => {
+            finish_of(a, i, 0);
+            FlatEnd::Retired.silent()
+        }
+        Demand::Sleep => {
+            finish_of(a, i, 0);
+            wait_end(a.asleep).silent()
+        }
+        Demand::Load { addr, size } => {
+            let Some(v) = load(m, addr, size) else {
+                return trap(a, LOAD_ACCESS, addr);
+            };
+            finish_of(a, i, v);
+            FlatEnd::Retired.silent()
+        }
+        Demand::Store { addr, size, value } => {
+            let Some(step) = store(m, addr, size, value) else {
+                return trap(a, STORE_ACCESS, addr);
+            };
+            finish_of(a, i, 0);
+            step
+        }
+        Demand::Trap { cause, tval } => trap(a, cause, tval),
+    }
+}
+
 // a step as its definition has it
 #[inline(always)]
-#[tactic(auto, unfolding(crate::specs::Flat::flat_step, crate::specs::Demand::need, crate::specs::Retire::finish))]
-fn decided_step(a: &mut Arch, m: &mut FlatMem) -> FlatStep
+#[tactic(auto, unfolding(crate::specs::Flat::flat_step, crate::specs::Demand::need))]
+fn fetched_step(a: &mut Arch, m: &mut FlatMem) -> FlatStep
     ensures arch { a.new ≡ (flat_step a.old m.old).arch }
     ensures ram { m.new ≡ (flat_step a.old m.old).ram }
     ensures step { result ≡ (flat_step a.old m.old).step }
@@ -141,36 +194,7 @@ fn decided_step(a: &mut Arch, m: &mut FlatMem) -> FlatStep
     let Some(i) = decode(w) else {
         return trap(a, ILLEGAL_INSTRUCTION, w as u64);
     };
-    match need_of(a, &i, w) {
-        Demand::Nothing => {
-            finish_of(a, &i, 0);
-            FlatEnd::Retired.silent()
-        }
-        Demand::Sleep => {
-            finish_of(a, &i, 0);
-            let end = if a.asleep {
-                FlatEnd::Slept
-            } else {
-                FlatEnd::Retired
-            };
-            end.silent()
-        }
-        Demand::Load { addr, size } => {
-            let Some(v) = load(m, addr, size) else {
-                return trap(a, LOAD_ACCESS, addr);
-            };
-            finish_of(a, &i, v);
-            FlatEnd::Retired.silent()
-        }
-        Demand::Store { addr, size, value } => {
-            let Some(step) = store(m, addr, size, value) else {
-                return trap(a, STORE_ACCESS, addr);
-            };
-            finish_of(a, &i, 0);
-            step
-        }
-        Demand::Trap { cause, tval } => trap(a, cause, tval),
-    }
+    decoded_step(a, m, &i, w)
 }
 
 /// One step: the word at pc decides, or a trap where pc is not in RAM. No interrupt is taken.
@@ -184,5 +208,5 @@ pub fn step_flat(a: &mut Arch, m: &mut FlatMem) -> FlatStep
     ensures kept { IsValid a.old → a.old.asleep ≡ false → IsValid a.new }
     ensures size { length m.new ≡ length m.old }
 {
-    decided_step(a, m)
+    fetched_step(a, m)
 }
