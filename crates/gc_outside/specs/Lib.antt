@@ -2,3 +2,9 @@ pub mod Faults
 pub mod Told
 pub mod Sink
 pub mod Store
+pub mod KeptFiles
+pub mod PlannedFaults
+pub mod TakenBytes
+pub mod MemSink
+pub mod SureSink
+pub mod Arena

@@ -8,11 +8,16 @@
 #![tactic(auto)]
 
 mod faults;
+mod kept_files;
+mod mem_sink;
+mod planned_faults;
+mod taken_bytes;
 mod sink;
 mod std_sink;
 mod store;
 
 pub use faults::Failed;
+pub use mem_sink::MemSink;
 pub use sink::Sink;
 pub use std_sink::StdSink;
 pub use store::{GetError, Got, Store};
