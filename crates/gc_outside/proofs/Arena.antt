@@ -6,10 +6,10 @@ use Rattle.std.proofs.lemmas.List.Quantifiers.{position-Some}
 use Rattle.std.proofs.lemmas.List.Sums.{fails_before_first}
 use Rattle.std.proofs.lemmas.Bool.{ltb-false, ltb-true, cases_Bool, or_cases, and_parts}
 use Rattle.std.specs.List.{position_or_len}
-use Rattle.std.specs.Prelude.{◌⊎◌, nat_lt}
+use Rattle.std.specs.Prelude.{◌⊎◌, nat_lt, nat_le}
 use Rattle.std.specs.Str.{bytes_eq}
 use Rattle.std.specs.Borrow.{Bor}
-use Rattle.std.specs.Prelude.{Result, Ok, Err, IsOk, is_ok}
+use Rattle.std.specs.Prelude.{Result, Ok, Err, IsOk, is_ok, unwrap_or}
 use Rattle.std.specs.Option.{option_copied}
 use Rattle.std.proofs.Common.{inl, inr}
 use Rattle.gc_outside.specs.declared.kept_files.Entry.{Entry}
@@ -114,6 +114,15 @@ length-without name (f ∷ fs) there =
       | inr other ↦ let h = rw other at there in rw other (omega (arith, length-without name fs h))
     ]
 
+-- the other files and the one of this name have all bytes
+pub total_length-without : (name : List ℕ) (fs : List (List ℕ × List ℕ)) → total_length (without name fs) + length (unwrap_or (file_of fs name) []) ≡ total_length fs
+total_length-without name [] = refl
+total_length-without name (f ∷ fs) =
+    elim (cases_Bool (bytes_eq f.0 name)) [
+      inl same ↦ rw same (omega arith)
+      | inr other ↦ rw other (omega (arith, total_length-without name fs))
+    ]
+
 -- there are no more files without one
 pub length-without-le : (name : List ℕ) (fs : List (List ℕ × List ℕ)) → length (without name fs) ≤ length fs
 length-without-le name [] = omega arith
@@ -126,7 +135,7 @@ length-without-le name (f ∷ fs) =
 -- where a file may be started there is a free place once the old one is out
 pub length-without_placed : (name : List ℕ) (fs : List (List ℕ × List ℕ)) → has_place name fs ≡ true → length fs ≤ 16 → length (without name fs) < 16
 length-without_placed name fs place few =
-    elim (or_cases _ _ (and_parts _ _ place).1) [
+    elim (or_cases (is_some (file_of fs name)) (nat_lt (length fs) 16) (and_parts (nat_le (length name) 64) _ place).1) [
       inl there ↦ omega (arith, length-without name fs there)
       | inr free ↦ omega (arith, ltb-true (length fs) 16 free, length-without-le name fs)
     ]
@@ -202,3 +211,8 @@ is_some-copied (Some x) = refl
 pub left_by_ok : {T E : Type 0} (r : Result T E) (done undone : List ℕ) → IsOk r → (if is_ok r then done else undone) ≡ done
 left_by_ok (Ok x) done undone ok = refl
 left_by_ok (Err e) done undone ok = absurd (cc)
+
+-- what is lent of a file, or nothing
+pub unwrap_or-copied : (lent : Option (Bor (List ℕ))) (none : Bor (List ℕ)) → none.now ≡ [] → (unwrap_or lent none).now ≡ unwrap_or (option_copied lent) []
+unwrap_or-copied None none empty = empty
+unwrap_or-copied (Some x) none empty = refl

@@ -1,2 +1,4 @@
 pub mod Outputs
 pub mod Arena
+pub mod Files
+pub mod Sure

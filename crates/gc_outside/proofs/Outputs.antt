@@ -1,6 +1,6 @@
 -- Laws for callers that make several calls in a row: what was told of them together, and that a count which rose stays so.
 use Rattle.std.specs.Prelude.{◌≡◌, ℕ, ◌≤◌, List, [], ◌++◌, Option, Some, None}
-use Rattle.std.proofs.Common.{sym, ◌∙◌, ap, arith, append_assoc, append-nil}
+use Rattle.std.proofs.Common.{refl, sym, ◌∙◌, ap, arith, append_assoc, append-nil, take, drop, take-append-drop}
 use Rattle.gc_outside.specs.Faults.{Rose}
 use Rattle.gc_outside.specs.Told.{Told}
 use Rattle.gc_outside.specs.Sink.{Appends, AppendsFront}
@@ -55,3 +55,11 @@ rose_later a b c below rose = omega arith
 -- a count that rose stays so as it grows
 pub rose_earlier : (a b c : ℕ) → Rose a b → b ≤ c → Rose a c
 rose_earlier a b c rose below = omega arith
+
+-- nothing is a front
+pub nothing_is_front : (xs a b : List ℕ) → b ≡ a → AppendsFront xs a b
+nothing_is_front xs a b same = ([], xs, refl, same ∙ sym (append-nil a))
+
+-- the first bytes are a front
+pub fitting_is_front : (k : ℕ) (xs a b : List ℕ) → b ≡ a ++ take k xs → AppendsFront xs a b
+fitting_is_front k xs a b fitting = (take k xs, drop k xs, sym (take-append-drop k xs), fitting)

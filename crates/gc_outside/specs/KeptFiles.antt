@@ -27,9 +27,9 @@ with_grown bytes [] = []
 with_grown bytes (f ∷ fs) = (f.0, f.1 ++ bytes) ∷ fs
 
 -- the name of the newest file
-abbrev pub newest_name : List (List ℕ × List ℕ) → List ℕ
-newest_name [] = []
-newest_name (f ∷ fs) = f.0
+abbrev pub newest_name : List (List ℕ × List ℕ) → Option (List ℕ)
+newest_name [] = None
+newest_name (f ∷ fs) = Some f.0
 
 -- how many bytes the files have
 abbrev pub total_length : List (List ℕ × List ℕ) → ℕ
@@ -43,3 +43,15 @@ spare_room k = k.room - total_length k.files
 -- a name has at most 64 bytes, and a new one is one of at most 16
 abbrev pub has_place : List ℕ → List (List ℕ × List ℕ) → Bool
 has_place name fs = nat_le (length name) 64 && (is_some (file_of fs name) || nat_lt (length fs) 16)
+
+-- the files with this one, in place of the one that had its name
+abbrev pub with_file : List ℕ → List ℕ → List (List ℕ × List ℕ) → List (List ℕ × List ℕ)
+with_file name bytes fs = (name, bytes) ∷ without name fs
+
+-- how many bytes a file of this name may have
+abbrev pub room_for : List ℕ → Kept → ℕ
+room_for name k = k.room - total_length (without name k.files)
+
+-- a file has its place, and fits in the room
+abbrev pub can_add : List ℕ → List ℕ → Kept → Bool
+can_add name bytes k = has_place name k.files && nat_le (length bytes) (room_for name k)

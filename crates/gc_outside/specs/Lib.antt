@@ -7,4 +7,6 @@ pub mod PlannedFaults
 pub mod TakenBytes
 pub mod MemSink
 pub mod SureSink
+pub mod MemStore
+pub mod SureStore
 pub mod Arena

@@ -21,3 +21,7 @@ sure_emitted bytes s = record {
 -- it is told where nothing was over
 abbrev pub told_if_none : {A : Type 0} → ℕ → A → Option A
 told_if_none over told = if over == 0 then Some told else None
+
+-- what was taken is told where nothing was over
+abbrev pub told_bytes : SureSinkState → Option (List ℕ)
+told_bytes s = told_if_none s.over s.taken.bytes

@@ -1,6 +1,7 @@
 // Files that are kept in one block of memory, for the stores in memory.
+ghost use Rattle.std.specs.Bool.{OnTrue, OnFalse};
 ghost use Rattle.std.specs.Prelude.{◌≡◌, ℕ, ◌+◌, ◌-◌, ◌<◌, ◌≤◌, ◌^◌, true, List, [], ◌++◌, length, take, drop, IfOk, position, option_copied, slice_index_or, vec_len, vec_capacity};
-ghost use Rattle.gc_outside.specs.KeptFiles.{Kept, file_of, without, with_empty, with_grown, total_length, spare_room, has_place};
+ghost use Rattle.gc_outside.specs.KeptFiles.{Kept, file_of, without, with_empty, with_grown, total_length, spare_room, has_place, room_for, can_add, with_file};
 ghost use Rattle.gc_outside.specs.declared.kept_files.Entry.{Entry};
 ghost use Rattle.gc_outside.specs.Arena.{is_named, entries_length, with_longer};
 
@@ -167,5 +168,38 @@ impl KeptFiles {
     {
         lengthen(self.entries.as_mut_slice(), bytes.len());
         let _ = self.bytes.extend_from_slice(bytes);
+    }
+
+    /// Appends to the newest file as far as there is room, and says how many bytes there was none for.
+    pub(crate) fn append_fitting(&mut self, bytes: &[u8]) -> usize
+        requires { 0 < length self.old.files }
+        ensures over { result ≡ length bytes.now - spare_room self.old }
+        ensures exact { self.new ≡ record self.old { files = with_grown (take (spare_room self.old) bytes.now) self.old.files } }
+    {
+        let count = bytes.len().min(self.spare_room());
+        self.append(&bytes[..count]);
+        bytes.len() - count
+    }
+
+    // How many bytes a file of this name may have.
+    fn room_for(&self, name: &str) -> usize
+        ensures { result ≡ room_for name.now self.now }
+    {
+        let had = self.file(name).unwrap_or(&[]).len();
+        self.room - (self.bytes.len() - had)
+    }
+
+    /// Puts a file whole, where it has its place and its bytes fit.
+    pub(crate) fn add(&mut self, name: &str, bytes: &[u8]) -> bool
+        ensures answer { result ≡ can_add name.now bytes.now self.old }
+        ensures fits { OnTrue result (self.new ≡ record self.old { files = with_file name.now bytes.now self.old.files }) }
+        ensures refused { OnFalse result (self.new ≡ self.old) }
+    {
+        if !self.has_place(name) || bytes.len() > self.room_for(name) {
+            return false;
+        }
+        self.start(name);
+        self.append(bytes);
+        true
     }
 }

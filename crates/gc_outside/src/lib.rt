@@ -7,17 +7,26 @@
 //! Read `specs/Told.antt`, `specs/Sink.antt` and `specs/Store.antt` first.
 #![tactic(auto)]
 
+mod answer;
+mod dir_store;
 mod faults;
 mod kept_files;
 mod mem_sink;
+mod mem_store;
 mod planned_faults;
 mod taken_bytes;
 mod sink;
 mod std_sink;
 mod store;
+mod sure_sink;
+mod sure_store;
 
+pub use dir_store::DirStore;
 pub use faults::Failed;
 pub use mem_sink::MemSink;
+pub use mem_store::MemStore;
 pub use sink::Sink;
 pub use std_sink::StdSink;
+pub use sure_sink::SureSink;
+pub use sure_store::{OpenPut, SureStore};
 pub use store::{GetError, Got, Store};
