@@ -123,3 +123,29 @@ impl<R: Files> Store for DirStore<'_, R> {
         Ok(())
     }
 }
+
+#[cfg(test)]
+mod tests {
+    use super::*;
+    use crate::tests::{is_bytes, put};
+    use std::env;
+    use std::test::Fail;
+
+    #[test]
+    fn dir_store_puts_and_gets(rt: HostRuntime) -> Result<(), Fail> {
+        let folder = env::temp_dir(&rt)?;
+        let path = folder.join(rt.alloc(), "gc_outside_dir_store_test")?;
+        let name = path.as_str();
+        let nowhere = path.join(rt.alloc(), "a")?;
+        let mut store = DirStore::new(&rt);
+        assert!(rt; put(&mut store, name, b"123", b"45").is_ok());
+        assert!(rt; is_bytes(store.get(rt.alloc(), name, 5), b"12345"));
+        assert!(rt; matches!(store.get(rt.alloc(), name, 4), Ok(Got::Longer)));
+        assert!(rt; put(&mut store, nowhere.as_str(), b"1", b"2").is_err());
+        fs::remove_file(&rt, name)?;
+        assert!(rt; matches!(store.get(rt.alloc(), name, 5), Ok(Got::Absent)));
+        assert!(rt; matches!(store.get(rt.alloc(), folder.as_str(), 5), Err(GetError::Failed)));
+        assert_eq!(rt; store.faults, 2);
+        Ok(())
+    }
+}

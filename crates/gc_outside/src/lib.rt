@@ -15,6 +15,8 @@ mod mem_sink;
 mod mem_store;
 mod planned_faults;
 mod taken_bytes;
+#[cfg(test)]
+mod tests;
 mod sink;
 mod std_sink;
 mod store;

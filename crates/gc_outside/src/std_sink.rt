@@ -39,3 +39,53 @@ impl<W: Write + Drop> Sink for StdSink<W> {
         }
     }
 }
+
+#[cfg(test)]
+mod tests {
+    use super::*;
+    use std::io::{self, Cursor};
+    use std::test::Fail;
+
+    // A writer that fails.
+    #[derive(Drop)]
+    struct Broken;
+
+    impl Write for Broken {
+        fn write(&mut self, _: &[u8]) -> io::Result<usize> {
+            Err(io::Error::from(io::ErrorKind::Other))
+        }
+
+        fn flush(&mut self) -> io::Result<()> {
+            Ok(())
+        }
+    }
+
+    // A writer that takes nothing.
+    #[derive(Drop)]
+    struct Stuck;
+
+    impl Write for Stuck {
+        fn write(&mut self, _: &[u8]) -> io::Result<usize> {
+            Ok(0)
+        }
+
+        fn flush(&mut self) -> io::Result<()> {
+            Ok(())
+        }
+    }
+
+    #[test]
+    fn std_sink_counts_faults(rt: HostRuntime) -> Result<(), Fail> {
+        let mut good = StdSink::new(Cursor::new(Vec::new(rt.alloc())));
+        assert!(rt; good.emit(b"123").is_ok());
+        assert_eq!(rt; good.stream.get_ref().as_slice(), b"123".as_slice());
+        assert_eq!(rt; good.faults, 0);
+        let mut broken = StdSink::new(Broken);
+        assert!(rt; broken.emit(b"123").is_err());
+        assert_eq!(rt; broken.faults, 1);
+        let mut stuck = StdSink::new(Stuck);
+        assert!(rt; stuck.emit(b"123").is_err());
+        assert_eq!(rt; stuck.faults, 1);
+        Ok(())
+    }
+}
