@@ -38,7 +38,7 @@ pub files_in-same_front : (es : List Entry) (k : ℕ) (old new : List ℕ) → e
 files_in-same_front [] k old new fits same = refl
 files_in-same_front (e ∷ es) k old new fits same =
     let head : take e.length (drop (entries_length es) new) ≡ take e.length (drop (entries_length es) old) =
-        sym (part-take new (entries_length es) e.length k (omega arith)) ∙ ap (λ l. take e.length (drop (entries_length es) l)) same ∙ part-take old (entries_length es) e.length k (omega arith) in
+    sym (part-take new (entries_length es) e.length k (omega arith)) ∙ ap (λ l. take e.length (drop (entries_length es) l)) same ∙ part-take old (entries_length es) e.length k (omega arith) in
     (λ i. (e.name.bytes, head i) ∷ files_in-same_front es k old new (omega arith) same i)
 
 -- more bytes at the end change no file
@@ -65,7 +65,7 @@ files_in-longer (e ∷ es) bytes more shared =
     let rest : drop (entries_length es) (bytes ++ more) ≡ drop (entries_length es) bytes ++ more = drop-append-le (entries_length es) bytes more (omega arith) in
     let had : take e.length (drop (entries_length es) bytes) ≡ drop (entries_length es) bytes = take_all e.length (drop (entries_length es) bytes) (omega (arith, length-drop (entries_length es) bytes)) in
     let has : take (e.length + length more) (drop (entries_length es) bytes ++ more) ≡ drop (entries_length es) bytes ++ more =
-        take_all _ _ (omega (arith, length-drop (entries_length es) bytes, length-append (drop (entries_length es) bytes) more)) in
+    take_all _ _ (omega (arith, length-drop (entries_length es) bytes, length-append (drop (entries_length es) bytes) more)) in
     (λ i. (e.name.bytes, (ap (take (e.length + length more)) rest ∙ has ∙ ap (λ l. l ++ more) (sym had)) i) ∷ files_in-append es bytes more (omega arith) i)
 
 -- it has so many more bytes, and there are as many entries
@@ -110,7 +110,7 @@ pub length-without : (name : List ℕ) (fs : List (List ℕ × List ℕ)) → is
 length-without name [] there = absurd (cc)
 length-without name (f ∷ fs) there =
     elim (cases_Bool (bytes_eq f.0 name)) [
-      inl same ↦ rw same (omega arith)
+      | inl same ↦ rw same (omega arith)
       | inr other ↦ let h = rw other at there in rw other (omega (arith, length-without name fs h))
     ]
 
@@ -119,7 +119,7 @@ pub total_length-without : (name : List ℕ) (fs : List (List ℕ × List ℕ)) 
 total_length-without name [] = refl
 total_length-without name (f ∷ fs) =
     elim (cases_Bool (bytes_eq f.0 name)) [
-      inl same ↦ rw same (omega arith)
+      | inl same ↦ rw same (omega arith)
       | inr other ↦ rw other (omega (arith, total_length-without name fs))
     ]
 
@@ -128,7 +128,7 @@ pub length-without-le : (name : List ℕ) (fs : List (List ℕ × List ℕ)) →
 length-without-le name [] = omega arith
 length-without-le name (f ∷ fs) =
     elim (cases_Bool (bytes_eq f.0 name)) [
-      inl same ↦ rw same (omega arith)
+      | inl same ↦ rw same (omega arith)
       | inr other ↦ rw other (omega (arith, length-without-le name fs))
     ]
 
@@ -136,7 +136,7 @@ length-without-le name (f ∷ fs) =
 pub length-without_placed : (name : List ℕ) (fs : List (List ℕ × List ℕ)) → has_place name fs ≡ true → length fs ≤ 16 → length (without name fs) < 16
 length-without_placed name fs place few =
     elim (or_cases (is_some (file_of fs name)) (nat_lt (length fs) 16) (and_parts (nat_le (length name) 64) _ place).1) [
-      inl there ↦ omega (arith, length-without name fs there)
+      | inl there ↦ omega (arith, length-without name fs there)
       | inr free ↦ omega (arith, ltb-true (length fs) 16 free, length-without-le name fs)
     ]
 
@@ -145,7 +145,7 @@ pub without-absent : (name : List ℕ) (fs : List (List ℕ × List ℕ)) → fi
 without-absent name [] absent = refl
 without-absent name (f ∷ fs) absent =
     elim (cases_Bool (bytes_eq f.0 name)) [
-      inl same ↦ let h = rw same at absent in absurd (cc)
+      | inl same ↦ let h = rw same at absent in absurd (cc)
       | inr other ↦ let h = rw other at absent in rw other (ap (λ l. f ∷ l) (without-absent name fs h))
     ]
 
@@ -180,9 +180,9 @@ module _ (name : List ℕ) (d : Entry) where
       let less = entries_length-remove es i d (omega arith) in
       let after = entries_length-after es i in
       let head : drop (entries_length (remove es i)) new ≡ drop (entries_length es) old =
-          ap (drop (entries_length (remove es i))) closed
-          ∙ drop-closed old (entries_length (drop (suc i) es)) (get_or es i d).length (entries_length (remove es i)) after (omega arith)
-          ∙ ap (λ n. drop n old) less in
+      ap (drop (entries_length (remove es i))) closed
+      ∙ drop-closed old (entries_length (drop (suc i) es)) (get_or es i d).length (entries_length (remove es i)) after (omega arith)
+      ∙ ap (λ n. drop n old) less in
       let rest = without-first es i old new (IsFirst-tail e es i first) (omega arith) closed in
       rw (first.2 zero (omega arith)) (λ j. (e.name.bytes, take e.length (head j)) ∷ rest j)
 
@@ -190,7 +190,7 @@ module _ (name : List ℕ) (d : Entry) where
   nowhere : (es : List Entry) → position (is_named name) es ≡ None → (k : ℕ) → k < length es → is_named name (get_or es k d) ≡ false
   nowhere es none k below =
       elim (cases_Bool (nat_lt (position_or_len (is_named name) es) (length es))) [
-        inl found ↦ absurd (let h = rw found at none in cc)
+        | inl found ↦ absurd (let h = rw found at none in cc)
         | inr past ↦ fails_before_first (is_named name) es k d (omega (arith, ltb-false _ _ past))
       ]
 

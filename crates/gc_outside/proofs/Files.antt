@@ -20,14 +20,14 @@ file_of-without : (name n : List ℕ) (fs : List (List ℕ × List ℕ)) → n �
 file_of-without name n [] other = refl
 file_of-without name n (f ∷ fs) other =
     elim (cases_Bool (bytes_eq f.0 name)) [
-      inl same ↦
+      | inl same ↦
           let is : f.0 ≡ name = (bytes_eq-Decides f.0 name).0 same in
           let not_n : bytes_eq f.0 n ≡ false = ap (λ m. bytes_eq m n) is ∙ other_name name n other in
           rw (same, not_n) refl
       | inr differs ↦ rw differs (elim (cases_Bool (bytes_eq f.0 n)) [
-          inl same ↦ rw same refl
-          | inr not_n ↦ rw not_n (file_of-without name n fs other)
-        ])
+        | inl same ↦ rw same refl
+        | inr not_n ↦ rw not_n (file_of-without name n fs other)
+      ])
     ]
 
 -- a file that is started is empty, and the others stand

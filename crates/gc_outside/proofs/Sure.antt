@@ -20,7 +20,7 @@ untold R before over after some = rw (ne_eqb over 0 (λ none. omega (arith, none
 both_told : {A : Type 0} (R : A → A → Type 0) (over : ℕ) (before after : A) → R before after → Told R (told_if_none over before) (told_if_none over after)
 both_told R over before after holds =
     elim (cases_Bool (eqb over 0)) [
-      inl none ↦ rw none holds
+      | inl none ↦ rw none holds
       | inr some ↦ rw some tt
     ]
 
@@ -28,7 +28,7 @@ both_told R over before after holds =
 pub sure_begun-tells : (name : List ℕ) (s : SureStoreState) → Told (ChangesFile name (Some [])) (told_files s) (told_files (sure_begun name s))
 sure_begun-tells name s =
     elim (cases_Bool (has_place name s.kept.files)) [
-      inl fits ↦ rw fits (both_told (ChangesFile name (Some [])) s.over (file_of s.kept.files) _ (started name s.kept.files))
+      | inl fits ↦ rw fits (both_told (ChangesFile name (Some [])) s.over (file_of s.kept.files) _ (started name s.kept.files))
       | inr lost ↦ rw lost (untold (ChangesFile name (Some [])) (told_files s) (plus s.over 1) (file_of s.kept.files) (omega arith))
     ]
 
@@ -36,7 +36,7 @@ sure_begun-tells name s =
 kept_piece-tells : (bytes : List ℕ) (s : SureStoreState) → 0 < length s.kept.files → Told (AppendsToOpen (put_name Open s.kept.files) bytes) (told_files s) (told_files (kept_piece bytes s))
 kept_piece-tells bytes s some =
     elim (cases_Bool (eqb (plus s.over (length bytes - spare_room s.kept)) 0)) [
-      inl none ↦
+      | inl none ↦
           let zero : plus s.over (length bytes - spare_room s.kept) ≡ 0 = eqb-true _ _ none in
           let same : s.over ≡ 0 = omega (arith, zero) in
           let all : take (spare_room s.kept) bytes ≡ bytes = take_all (spare_room s.kept) bytes (omega (arith, zero)) in

@@ -144,7 +144,12 @@ mod tests {
         assert!(rt; put(&mut store, nowhere.as_str(), b"1", b"2").is_err());
         fs::remove_file(&rt, name)?;
         assert!(rt; matches!(store.get(rt.alloc(), name, 5), Ok(Got::Absent)));
-        assert!(rt; matches!(store.get(rt.alloc(), folder.as_str(), 5), Err(GetError::Failed)));
+        assert!(rt;
+            matches!(
+                store.get(rt.alloc(), folder.as_str(), 5),
+                Err(GetError::Failed)
+            )
+        );
         assert_eq!(rt; store.faults, 2);
         Ok(())
     }

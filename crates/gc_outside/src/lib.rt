@@ -14,14 +14,14 @@ mod kept_files;
 mod mem_sink;
 mod mem_store;
 mod planned_faults;
-mod taken_bytes;
-#[cfg(test)]
-mod tests;
 mod sink;
 mod std_sink;
 mod store;
 mod sure_sink;
 mod sure_store;
+mod taken_bytes;
+#[cfg(test)]
+mod tests;
 
 pub use dir_store::DirStore;
 pub use faults::Failed;
@@ -29,6 +29,6 @@ pub use mem_sink::MemSink;
 pub use mem_store::MemStore;
 pub use sink::Sink;
 pub use std_sink::StdSink;
+pub use store::{GetError, Got, Store};
 pub use sure_sink::SureSink;
 pub use sure_store::{OpenPut, SureStore};
-pub use store::{GetError, Got, Store};

@@ -9,6 +9,7 @@ const NAMES: [&str; 17] = [
 
 // A name of 64 bytes, and one of 65.
 const LONGEST: &str = "0123456789012345678901234567890123456789012345678901234567890123";
+
 const TOO_LONG: &str = "01234567890123456789012345678901234567890123456789012345678901234";
 
 // Whether an answer is these bytes.
@@ -28,7 +29,12 @@ fn has(file: Option<&[u8]>, want: &[u8]) -> bool {
 }
 
 // Puts a file in two pieces.
-pub(crate) fn put<S: Store>(store: &mut S, name: &str, first: &[u8], second: &[u8]) -> Result<(), Failed> {
+pub(crate) fn put<S: Store>(
+    store: &mut S,
+    name: &str,
+    first: &[u8],
+    second: &[u8],
+) -> Result<(), Failed> {
     store.begin_put(name)?;
     store.piece(first)?;
     store.piece(second)?;
@@ -75,9 +81,17 @@ fn mem_store_fails_as_planned(rt: HostRuntime) -> Result<(), Fail> {
     for call in 0..6 {
         let mut store = MemStore::new(rt.alloc(), 2)?;
         assert!(rt; store.fail_at(call));
-        assert_eq!(rt; put(&mut store, "a", b"1", b"2").is_ok(), call > 3, "call {call}");
+        assert_eq!(rt;
+            put(&mut store, "a", b"1", b"2").is_ok(),
+            call > 3,
+            "call {call}"
+        );
         if call > 3 {
-            assert_eq!(rt; is_bytes(store.get(rt.alloc(), "a", 2), b"12"), call > 4, "call {call}");
+            assert_eq!(rt;
+                is_bytes(store.get(rt.alloc(), "a", 2), b"12"),
+                call > 4,
+                "call {call}"
+            );
         }
         assert_eq!(rt; has(store.file("a"), b"12"), call > 2, "call {call}");
     }
@@ -87,9 +101,15 @@ fn mem_store_fails_as_planned(rt: HostRuntime) -> Result<(), Fail> {
 #[test]
 fn mem_store_puts_and_gets(rt: HostRuntime) -> Result<(), Fail> {
     let mut store = MemStore::new(rt.alloc(), 4)?;
-    assert!(rt; put(&mut store, "a", b"12", b"345").is_err(), "one over the room");
+    assert!(rt;
+        put(&mut store, "a", b"12", b"345").is_err(),
+        "one over the room"
+    );
     assert!(rt; has(store.file("a"), b"12"));
-    assert!(rt; put(&mut store, "a", b"12", b"34").is_ok(), "the room exactly");
+    assert!(rt;
+        put(&mut store, "a", b"12", b"34").is_ok(),
+        "the room exactly"
+    );
     assert!(rt; is_bytes(store.get(rt.alloc(), "a", 4), b"1234"));
     assert!(rt; matches!(store.get(rt.alloc(), "a", 3), Ok(Got::Longer)));
     assert!(rt; matches!(store.get(rt.alloc(), "b", 3), Ok(Got::Absent)));

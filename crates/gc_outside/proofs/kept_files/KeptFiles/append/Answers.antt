@@ -39,7 +39,7 @@ invariant_of-self c = record {
   shared =
       ap entries_length (entries c) ∙ entries_length-longer c.self.inside.entries.items (length c.args.bytes.now) (some c)
       ∙ (let same : entries_length c.self.inside.entries.items + length c.args.bytes.now ≡ vec_len c.extend_from_slice.new.self =
-          omega (arith, c.self.invariant.shared, c.extend_from_slice.new.self.ok.0, c.self.inside.bytes.ok.0, ap length (bytes c), length-append c.self.inside.bytes.items c.args.bytes.now) in same);
+      omega (arith, c.self.invariant.shared, c.extend_from_slice.new.self.ok.0, c.self.inside.bytes.ok.0, ap length (bytes c), length-append c.self.inside.bytes.items c.args.bytes.now) in same);
   within = omega (arith, fits c, c.extend_from_slice.new.self.ok.0, c.self.inside.bytes.ok.0, ap length (bytes c), length-append c.self.inside.bytes.items c.args.bytes.now);
   has_memory = omega (arith, c.self.invariant.has_memory, c.extend_from_slice.ensures.capacity);
 }
@@ -47,6 +47,6 @@ invariant_of-self c = record {
 pub returns : goal.returns
 returns c =
     let grown : files_in c.extend_from_slice.new.self.items (refill (length c.self.inside.entries.items) c.self.inside.entries.items c.lengthen.new.entries) ≡ with_grown c.args.bytes.now (files_in c.self.inside.bytes.items c.self.inside.entries.items) =
-        (λ i. files_in (bytes c i) (entries c i))
-        ∙ files_in-longer c.self.inside.entries.items c.self.inside.bytes.items c.args.bytes.now (omega (arith, c.self.invariant.shared, c.self.inside.bytes.ok.0)) in
+    (λ i. files_in (bytes c i) (entries c i))
+    ∙ files_in-longer c.self.inside.entries.items c.self.inside.bytes.items c.args.bytes.now (omega (arith, c.self.invariant.shared, c.self.inside.bytes.ok.0)) in
     rw (← c.self.view_is) (λ i. record { files = grown i; room = c.self.inside.room })

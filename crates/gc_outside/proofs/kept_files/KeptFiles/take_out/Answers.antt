@@ -18,7 +18,7 @@ returns-in_default-clause-others c =
     let es = c.self.inside.entries.items in
     let nowhere : position (is_named name) es ≡ None = ap (position (is_named name)) (sym c.as_slice.ensures.value) ∙ sym c.place.ensures ∙ c.in_default.is in
     let absent : file_of c.args.self.now.files name ≡ None =
-        ap (λ k. file_of k.files name) (sym c.self.view_is) ∙ file_of-none name no_entry es c.self.inside.bytes.items nowhere in
+    ap (λ k. file_of k.files name) (sym c.self.view_is) ∙ file_of-none name no_entry es c.self.inside.bytes.items nowhere in
     (λ i. record { files = sym (without-absent name c.args.self.now.files absent) i; room = c.args.self.now.room })
 
 pub returns-in_default-clause-bounded : goal.returns-in_default-clause-bounded
@@ -47,7 +47,7 @@ invariant_of-self c =
     let less : entries_length (remove es c.in-Some.at) + (get_or es c.in-Some.at no_entry).length ≡ entries_length es = entries_length-remove es c.in-Some.at no_entry (first c).0 in
     let fits : c.span-start.result.1 ≤ length old.items = omega (arith, within, old.ok.0) in
     let rest : vec_len c.close_gap.new.bytes ≡ c.span-start.result.0 + (length old.items - c.span-start.result.1) =
-        omega (arith, c.close_gap.new.bytes.ok.0, ap length c.close_gap.ensures.items, length-append (take c.span-start.result.0 old.items) (drop c.span-start.result.1 old.items), length-take-le c.span-start.result.0 old.items (omega (arith, fits, c.span-start.ensures.ordered)), length-drop c.span-start.result.1 old.items) in
+    omega (arith, c.close_gap.new.bytes.ok.0, ap length c.close_gap.ensures.items, length-append (take c.span-start.result.0 old.items) (drop c.span-start.result.1 old.items), length-take-le c.span-start.result.0 old.items (omega (arith, fits, c.span-start.ensures.ordered)), length-drop c.span-start.result.1 old.items) in
     record {
       shared = ap entries_length c.remove.ensures.items ∙ (let same : entries_length (remove es c.in-Some.at) ≡ vec_len c.close_gap.new.bytes = omega (arith, less, rest, end c, fits, c.self.invariant.shared, old.ok.0) in same);
       within = omega (arith, rest, c.self.invariant.within, fits, c.span-start.ensures.ordered, old.ok.0);
@@ -59,11 +59,11 @@ returns-clause-others c =
     let es = c.self.inside.entries.items in
     let old = c.self.inside.bytes.items in
     let closed : c.close_gap.new.bytes.items ≡ take (entries_length (drop (suc c.in-Some.at) es)) old ++ drop (entries_length (drop (suc c.in-Some.at) es) + (get_or es c.in-Some.at no_entry).length) old =
-        c.close_gap.ensures.items ∙ ap (λ n. take c.span-start.result.0 old ++ drop n old) (end c)
-        ∙ ap (λ n. take n old ++ drop (n + (get_or es c.in-Some.at no_entry).length) old) (start c) in
+    c.close_gap.ensures.items ∙ ap (λ n. take c.span-start.result.0 old ++ drop n old) (end c)
+    ∙ ap (λ n. take n old ++ drop (n + (get_or es c.in-Some.at no_entry).length) old) (start c) in
     let out : files_in c.close_gap.new.bytes.items c.remove.new.self.items ≡ without c.args.name.now (files_in old es) =
-        ap (files_in c.close_gap.new.bytes.items) c.remove.ensures.items
-        ∙ without-first c.args.name.now no_entry es c.in-Some.at old c.close_gap.new.bytes.items (first c) (omega (arith, c.self.invariant.shared, c.self.inside.bytes.ok.0)) closed in
+    ap (files_in c.close_gap.new.bytes.items) c.remove.ensures.items
+    ∙ without-first c.args.name.now no_entry es c.in-Some.at old c.close_gap.new.bytes.items (first c) (omega (arith, c.self.invariant.shared, c.self.inside.bytes.ok.0)) closed in
     rw (← c.self.view_is) (λ i. record { files = out i; room = c.self.inside.room })
 
 pub returns-clause-bounded : goal.returns-clause-bounded

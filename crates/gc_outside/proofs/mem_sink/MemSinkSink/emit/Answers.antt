@@ -11,7 +11,7 @@ pub returns-then-next_fails-clause-front : goal.returns-then-next_fails-clause-f
 returns-then-next_fails-clause-front c =
     let old : c.self.inside.taken ≡ c.args.self.now.taken = ap (λ (s : MemSinkState). s.taken) c.self.view_is in
     elim c.then-next_fails.branch [
-      then-next_fails-via-then-next_fails w ↦
+      | then-next_fails-via-then-next_fails w ↦
           nothing_is_front c.args.bytes.now _ _ (ap (λ (s : Inside). s.taken.bytes) w.self-inside-is ∙ ap (λ (t : Taken). t.bytes) old)
       | then-next_fails-via-else-next_fails+then-append-gt0 w ↦
           fitting_is_front (free_room c.args.self.now.taken) c.args.bytes.now _ _ (ap (λ (s : Inside). s.taken.bytes) w.self-inside-is ∙ ap (λ (t : Taken). t.bytes) w.append.ensures.exact ∙ ap (λ (t : Taken). t.bytes ++ take (free_room t) c.args.bytes.now) old)
