@@ -1,12 +1,12 @@
 -- What becomes of the files in a block of bytes as entries and bytes come and go.
-use Rattle.std.specs.Prelude.{◌≡◌, ℕ, zero, suc, ◌+◌, ◌-◌, ◌<◌, ◌≤◌, Bool, true, false, if◌then◌else◌, List, [], ◌∷◌, ◌++◌, length, take, drop, remove, Option, Some, None, position, slice_range}
-use Rattle.std.proofs.Common.{refl, sym, ◌∙◌, ap, arith, get_or, length-take-le, length-append, length-drop, add-one, append_assoc}
+use Rattle.std.specs.Prelude.{◌≡◌, ℕ, zero, suc, ◌+◌, ◌-◌, ◌<◌, ◌≤◌, true, false, if◌then◌else◌, List, [], ◌∷◌, ◌++◌, length, take, drop, remove, Option, Some, None, position}
+use Rattle.std.proofs.Common.{refl, sym, ◌∙◌, ap, arith, get_or, length-take-le, length-append, length-drop, add-one}
 use Rattle.std.proofs.lemmas.List.{drop-take, drop-drop, take-take, take_all, take_at, drop_at, take-append-le, drop-append-le}
 use Rattle.std.proofs.lemmas.List.Quantifiers.{position-Some}
 use Rattle.std.proofs.lemmas.List.Sums.{fails_before_first}
 use Rattle.std.proofs.lemmas.Bool.{ltb-false, ltb-true, cases_Bool, or_cases, and_parts}
 use Rattle.std.specs.List.{position_or_len}
-use Rattle.std.specs.Prelude.{◌⊎◌, nat_lt, nat_le}
+use Rattle.std.specs.Prelude.{nat_lt, nat_le}
 use Rattle.std.specs.Str.{bytes_eq}
 use Rattle.std.specs.Borrow.{Bor}
 use Rattle.std.specs.Prelude.{Result, Ok, Err, IsOk, is_ok, unwrap_or}

@@ -1,11 +1,11 @@
 -- What the files of each name are as files are started and grow.
-use Rattle.std.specs.Prelude.{◌≡◌, ◌≢◌, ℕ, ◌<◌, Bool, true, false, List, [], ◌∷◌, ◌++◌, length, Option, Some, None, IsSome}
-use Rattle.std.proofs.Common.{refl, sym, ◌∙◌, ap, arith, inl, inr, append-nil}
+use Rattle.std.specs.Prelude.{◌≡◌, ◌≢◌, ℕ, ◌<◌, true, false, List, [], ◌∷◌, length, Some, IsSome}
+use Rattle.std.proofs.Common.{refl, sym, ◌∙◌, ap, arith, inl, inr}
 use Rattle.std.specs.Str.{bytes_eq}
 use Rattle.std.proofs.lemmas.Bool.{cases_Bool, false_from_ne_true}
 use Rattle.std.proofs.lemmas.Slice.Eq.{bytes_eq-Decides}
 use Rattle.gc_outside.specs.KeptFiles.{file_of, without, with_empty, with_grown, newest_name}
-use Rattle.gc_outside.specs.Store.{Files, SameFiles, SameOthers, ChangesFile, LeavesOrEmpties, AppendsToOpen, HoldsFront, CutsOpen}
+use Rattle.gc_outside.specs.Store.{ChangesFile, LeavesOrEmpties, AppendsToOpen, CutsOpen}
 
 -- a name is itself
 same_name : (name : List ℕ) → bytes_eq name name ≡ true

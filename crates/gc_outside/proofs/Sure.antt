@@ -1,13 +1,13 @@
 -- What the sure store tells after its calls.
-use Rattle.std.specs.Prelude.{◌≡◌, ℕ, ◌+◌, ◌-◌, ◌<◌, ◌≤◌, Bool, true, false, List, [], ◌∷◌, ◌++◌, length, take, Option, Some, None, IsSome}
+use Rattle.std.specs.Prelude.{◌≡◌, ℕ, ◌-◌, ◌<◌, List, [], length, take, Option, Some, IsSome}
 use Rattle.std.proofs.Common.{refl, arith, eqb, inl, inr}
 use Rattle.std.proofs.lemmas.Bool.{cases_Bool, eqb-true, ne_eqb}
 use Rattle.std.proofs.lemmas.List.{take_all}
 use Rattle.gc_outside.specs.Told.{Told}
 use Rattle.gc_outside.specs.declared.sure_store.OpenPut.{OpenPut}
 use Rattle.gc_outside.specs.declared.sure_store.OpenPut.TheVariants.{Closed, Open, Lost}
-use Rattle.gc_outside.specs.Store.{Files, ChangesFile, AppendsToOpen}
-use Rattle.gc_outside.specs.KeptFiles.{Kept, file_of, with_grown, spare_room, has_place}
+use Rattle.gc_outside.specs.Store.{ChangesFile, AppendsToOpen}
+use Rattle.gc_outside.specs.KeptFiles.{file_of, spare_room, has_place}
 use Rattle.gc_outside.specs.SureSink.{plus, told_if_none}
 use Rattle.gc_outside.specs.SureStore.{SureStoreState, told_files, put_name, sure_begun, pieced_into, kept_piece, IsCounted}
 use Rattle.gc_outside.proofs.Files.{started, grown, some_named}

@@ -1,5 +1,5 @@
--- How the files lie in one block of bytes: the newest last, each before the older one's entry. Source: this project's own rule.
-use Rattle.std.specs.Prelude.{◌≡◌, ℕ, ◌+◌, ◌≤◌, Bool, List, [], ◌∷◌, length, take, drop, vec_len, vec_capacity}
+-- How the files lie in one block of bytes: the oldest first there, and the newest first among the entries. Source: this project's own rule.
+use Rattle.std.specs.Prelude.{◌≡◌, ℕ, ◌+◌, ◌≤◌, Bool, List, [], ◌∷◌, take, drop, vec_len, vec_capacity}
 use Rattle.std.specs.Str.{bytes_eq}
 use Rattle.gc_outside.specs.declared.kept_files.Entry.{Entry}
 use Rattle.gc_outside.specs.declared.kept_files.KeptFiles.TheInside.{Inside}

@@ -1,5 +1,5 @@
 -- A store in memory that never fails. Source: this project's own rule.
-use Rattle.std.specs.Prelude.{◌≡◌, ℕ, ◌-◌, ◌<◌, Bool, if◌then◌else◌, List, [], length, take, Option, Some, None}
+use Rattle.std.specs.Prelude.{◌≡◌, ℕ, ◌-◌, ◌<◌, if◌then◌else◌, List, [], length, take, Option, Some, None}
 use Rattle.gc_outside.specs.declared.sure_store.OpenPut.{OpenPut}
 use Rattle.gc_outside.specs.declared.sure_store.OpenPut.TheVariants.{Closed, Open, Lost}
 use Rattle.gc_outside.specs.Store.{Files}

@@ -20,7 +20,7 @@ const CHUNK: usize = 16384;
 #[derive(Drop)]
 pub struct DirStore<'a, R: Files> {
     rt: &'a R,
-    open: Option<R::File>,
+    file: Option<R::File>,
     faults: u64,
 }
 
@@ -29,7 +29,7 @@ impl<'a, R: Files> DirStore<'a, R> {
     pub fn new(rt: &'a R) -> DirStore<'a, R> {
         DirStore {
             rt,
-            open: None,
+            file: None,
             faults: 0,
         }
     }
@@ -80,7 +80,7 @@ fn read_file<R: Files>(rt: &R, alloc: Global, name: &str, most: usize) -> Result
 impl<R: Files> Store for DirStore<'_, R> {
     ghost files = { λ _. None };
 
-    ghost open_put = { λ s. option_map (λ _. []) s.open };
+    ghost open_put = { λ s. option_map (λ _. []) s.file };
 
     ghost faults = { λ s. s.faults };
 
@@ -95,26 +95,26 @@ impl<R: Files> Store for DirStore<'_, R> {
     }
 
     fn begin_put(&mut self, name: &str) -> Result<(), Failed> {
-        self.open = fs::create(self.rt, name).ok();
-        if self.open.is_none() {
+        self.file = fs::create(self.rt, name).ok();
+        if self.file.is_none() {
             return Err(one_more(&mut self.faults));
         }
         Ok(())
     }
 
     fn piece(&mut self, bytes: &[u8]) -> Result<(), Failed> {
-        let Some(mut file) = self.open.take() else {
+        let Some(mut file) = self.file.take() else {
             unreachable!()
         };
         if file.write_all(bytes).is_err() {
             return Err(one_more(&mut self.faults));
         }
-        self.open = Some(file);
+        self.file = Some(file);
         Ok(())
     }
 
     fn end_put(&mut self) -> Result<(), Failed> {
-        let Some(mut file) = self.open.take() else {
+        let Some(mut file) = self.file.take() else {
             unreachable!()
         };
         if file.flush().is_err() {

@@ -1,8 +1,7 @@
 -- The newest file is the last in the block, so that it grows at its end.
-use Rattle.std.proofs.Common.{◌≡◌, ℕ, ◌+◌, ◌<◌, ◌≤◌, List, length-append, ◌++◌, length, true, ap, ◌∙◌, sym, arith, is_ok, rules, vec_len}
+use Rattle.std.proofs.Common.{◌≡◌, ◌+◌, ◌<◌, ◌≤◌, length-append, ◌++◌, length, ap, ◌∙◌, arith, vec_len}
 use Rattle.arrayvec.proofs.ArrayVecLemmas.{items-with_items}
 use Rattle.std.specs.List.{refill}
-use Rattle.gc_outside.specs.declared.kept_files.Entry.{Entry}
 use Rattle.gc_outside.specs.Arena.{with_longer, entries_length, files_in}
 use Rattle.gc_outside.specs.KeptFiles.{with_grown}
 use Rattle.gc_outside.proofs.Arena.{total_length-shared, length-files_in, files_in-longer, entries_length-longer, length-longer, left_by_ok}

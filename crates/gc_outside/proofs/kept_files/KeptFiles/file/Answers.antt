@@ -1,5 +1,5 @@
 -- The file lies where its entry says.
-use Rattle.std.proofs.Common.{◌≡◌, ℕ, ◌+◌, ◌-◌, suc, arith, ap, ◌∙◌, sym, add-one, drop, get_or, Some, None, position}
+use Rattle.std.proofs.Common.{◌≡◌, ◌+◌, ◌-◌, suc, arith, ap, ◌∙◌, sym, add-one, drop, get_or, Some, None, position}
 use Rattle.std.specs.Option.{option_copied}
 use Rattle.gc_outside.specs.Arena.{is_named, entries_length}
 use Rattle.gc_outside.proofs.Arena.{IsFirst-position, file_of-first, file_of-none, no_entry}

@@ -1,8 +1,8 @@
 -- Without an entry and its bytes the other files stay.
-use Rattle.std.proofs.Common.{◌≡◌, ℕ, ◌+◌, ◌-◌, ◌≤◌, suc, List, ◌++◌, length, take, drop, get_or, Some, None, position, ap, ◌∙◌, sym, arith, add-one, length-append, length-take-le, length-drop, vec_len}
+use Rattle.std.proofs.Common.{◌≡◌, ◌+◌, ◌-◌, ◌≤◌, suc, ◌++◌, length, take, drop, get_or, None, position, ap, ◌∙◌, sym, arith, add-one, length-append, length-take-le, length-drop, vec_len}
 use Rattle.std.specs.List.{remove}
 use Rattle.gc_outside.specs.Arena.{is_named, entries_length, files_in}
-use Rattle.gc_outside.specs.KeptFiles.{Kept, file_of, without}
+use Rattle.gc_outside.specs.KeptFiles.{file_of, without}
 use Rattle.gc_outside.proofs.Arena.{no_entry, length-files_in, without-absent, file_of-none, IsFirst, IsFirst-position, without-first, entries_length-remove}
 use Rattle.gc_outside.proofs.kept_files.KeptFiles.take_out.Goals as goal
 use Rattle.gc_outside.proofs.kept_files.KeptFiles.take_out.Goals.{After-close_gap, After-place}
