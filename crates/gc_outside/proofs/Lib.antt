@@ -1,0 +1,5 @@
+pub mod Outputs
+pub mod Arena
+pub mod Files
+pub mod Sure
+pub mod Emissions

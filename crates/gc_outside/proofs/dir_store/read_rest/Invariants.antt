@@ -1,0 +1,9 @@
+-- What is kept never passes the most, and each round adds to it.
+use Rattle.std.proofs.Common.{◌-◌, ◌≤◌, vec_len}
+use Rattle.gc_outside.proofs.dir_store.read_rest.Given as goal
+
+abbrev pub invariant-loop-count : goal.invariant-loop-count
+invariant-loop-count g l = vec_len l.bytes ≤ l.most
+
+abbrev pub decreases-loop-count : goal.decreases-loop-count
+decreases-loop-count g l = l.most - vec_len l.bytes

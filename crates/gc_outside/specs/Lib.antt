@@ -1,0 +1,13 @@
+pub mod Faults
+pub mod Told
+pub mod Sink
+pub mod Store
+pub mod KeptFiles
+pub mod PlannedFaults
+pub mod TakenBytes
+pub mod MemSink
+pub mod SureSink
+pub mod MemStore
+pub mod SureStore
+pub mod Arena
+pub mod Emits
