@@ -1,10 +1,10 @@
 -- Each call keeps the queue sound.
-use Rattle.std.proofs.Common.{◌≡◌, ℕ, ◌<◌, ◌≤◌, List, [], ◌∷◌, length, reverse, refl, arith, Bool, true, false}
+use Rattle.std.proofs.Common.{◌≡◌, ℕ, ◌<◌, List, [], ◌∷◌, length, reverse, arith, true, false}
 use Rattle.std.proofs.lemmas.List.{length-reverse}
 use Rattle.ev_queue.specs.declared.due.Due.{Due}
 use Rattle.ev_queue.specs.declared.slot.Slot.{Slot}
 use Rattle.ev_queue.specs.PendingList.{is_pending, scheduled, without, rest, IsInServiceOrder, HoldsSlotsOnce}
-use Rattle.ev_queue.specs.SlotTable.{gave, is_free, granted, GivesHandle}
+use Rattle.ev_queue.specs.SlotTable.{gave, is_free, granted}
 use Rattle.ev_queue.specs.Queue.{Queue, IsSoundQueue, HaveHandles, stored, IsSoundStore}
 use Rattle.ev_queue.proofs.OrderLemmas.{scheduled_order, without_order}
 use Rattle.ev_queue.proofs.RoomLemmas.{no_more, scheduled_once, scheduled_handles, without_once, without_handles}
@@ -38,7 +38,7 @@ module _ (q : Queue) (sound : IsSoundQueue q) where
     by_events [] o u h = record { order = tt; once = tt; handles = tt }
     by_events (e ∷ es) o u h = record { order = o.1; once = u.1; handles = h.1 }
 
-  pub granted_sound : (o s c : ℕ) → is_free q.table o s ≡ true → IsSoundQueue (record q { table = granted q.table o s c })
+  pub granted_sound : (o s c : ℕ) → true ≡ is_free q.table o s → IsSoundQueue (record q { table = granted q.table o s c })
   granted_sound o s c free = record { order = sound.order; once = sound.once; handles = still q.pending sound.handles } where
     still : (es : List Due) → HaveHandles es q.table → HaveHandles es (granted q.table o s c)
     still [] h = tt
@@ -72,7 +72,7 @@ take_out_store events events' table capacity capacity' o s sound e k =
 
 -- a handle is given
 pub grant_store : (events : List Due) (table table' : List Slot) (capacity o s c : ℕ) → IsSoundStore events table capacity
-    → is_free table o s ≡ true → table' ≡ granted table o s c → IsSoundStore events table' capacity
+    → true ≡ is_free table o s → table' ≡ granted table o s c → IsSoundStore events table' capacity
 grant_store events table table' capacity o s c sound free e =
     record {
       queue = rw e (granted_sound (stored events table) sound.queue o s c free);

@@ -1,13 +1,12 @@
 -- The vector of pending events, whose first event stands last.
-use Rattle.std.proofs.Common.{◌≡◌, ℕ, suc, ◌+◌, ◌-◌, ◌<◌, ◌≤◌, List, [], ◌∷◌, ◌++◌, length, reverse, get_or, take, drop, insert, refl, sym, ◌∙◌, ap, subst, arith, Bool, true, false, cond, ◌&&◌, ◌||◌, ◌==◌, add-one, drop-cons, append_assoc, Option, Some, None}
-use Rattle.std.proofs.lemmas.Grind.{common_steps}
+use Rattle.std.proofs.Common.{◌≡◌, ℕ, suc, ◌+◌, ◌-◌, ◌<◌, ◌≤◌, List, [], ◌∷◌, ◌++◌, length, reverse, get_or, take, drop, insert, refl, sym, ◌∙◌, ap, arith, Bool, true, false, ◌||◌, add-one, drop-cons, append_assoc, Option, Some, None}
 use Rattle.std.proofs.Math.Seq.{take-suc, take-length, drop-length}
 use Rattle.std.proofs.lemmas.List.{reverse-append, take-append-drop, length-reverse, get_or-reverse}
 use Rattle.std.proofs.lemmas.Bool.Decides.{nat_tests}
 use Rattle.std.proofs.lemmas.Option.{slice_get_past, slice_get-get_or, slice_get_within, get_or_from_slice_get}
 use Rattle.std.specs.Prelude.{slice_get, remove, IsSomeAnd}
 use Rattle.ev_queue.specs.declared.due.Due.{Due}
-use Rattle.ev_queue.specs.PendingList.{is_of, is_before, is_pending, scheduled, without, HoldsSlotsOnce, first, rest}
+use Rattle.ev_queue.specs.PendingList.{is_of, is_before, is_pending, scheduled, without, HoldsSlotsOnce}
 use Rattle.ev_queue.proofs.OrderLemmas.{without_absent}
 
 -- d put among the events below place n, with those from n on ahead of it

@@ -1,6 +1,5 @@
 -- What the table of slots says, before and after a handle is given.
-use Rattle.std.proofs.Common.{◌≡◌, ℕ, zero, suc, ◌+◌, ◌<◌, ◌≤◌, List, [], ◌∷◌, ◌++◌, length, get_or, set, refl, sym, ◌∙◌, ap, subst, arith, Bool, true, false, cond, ◌&&◌, ◌||◌, ◌==◌, nat_lt, Option, Some, None, slice_index, is_none, add-one}
-use Rattle.std.proofs.lemmas.Grind.{common_steps}
+use Rattle.std.proofs.Common.{◌≡◌, ℕ, zero, suc, ◌+◌, ◌<◌, List, [], ◌∷◌, ◌++◌, length, get_or, set, refl, sym, ap, arith, Bool, true, false, cond, ◌&&◌, ◌||◌, ◌==◌, nat_lt, Option, Some, None, slice_index, is_none, add-one}
 use Rattle.std.proofs.lemmas.Bool.Decides.{nat_tests}
 use Rattle.ev_queue.specs.declared.slot.Slot.{Slot}
 use Rattle.ev_queue.specs.SlotTable.{is_slot, has_slot, class_of, is_class, gave, is_free, granted, slot_place, object_slots, all_slots, GivesHandle, HasFreeSlots}
@@ -84,8 +83,8 @@ free_is_there true b h = refl
 free_is_there false b h = h
 
 -- a handle that is free is given
-pub gives_handle : (xs : List Slot) (o s c : ℕ) → is_free xs o s ≡ true → GivesHandle xs (granted xs o s c) o s c
-gives_handle xs o s c h =
+pub gives_handle : (xs : List Slot) (o s c : ℕ) → true ≡ is_free xs o s → GivesHandle xs (granted xs o s c) o s c
+gives_handle xs o s c free =
     record {
       given = rw is_now (grind (arith, nat_tests));
       only = only_this;
@@ -94,7 +93,7 @@ gives_handle xs o s c h =
       others = λ p t n. rw (class_other xs o s c p t n, has_granted xs o s c p t) refl;
     } where
       is_now : class_of (granted xs o s c) o s ≡ Some c
-      is_now = class_granted xs o s c (free_is_there (has_slot xs o s) (is_none (class_of xs o s)) h)
+      is_now = class_granted xs o s c (free_is_there (has_slot xs o s) (is_none (class_of xs o s)) (sym free))
 
       only_this : (d : ℕ) → gave (granted xs o s c) o s d ≡ true → d ≡ c
       only_this d g = let same : (c == d) ≡ true = rw is_now at g in grind (arith, nat_tests)
@@ -103,7 +102,7 @@ gives_handle xs o s c h =
       by_slot p t d g true e =
           let k = same_slot o s p t e in
           let was : gave xs o s d ≡ true = rw (k.0, k.1) g in
-          absurd (given_not_free (class_of xs o s) (has_slot xs o s) d was h)
+          absurd (given_not_free (class_of xs o s) (has_slot xs o s) d was (sym free))
       by_slot p t d g false e = rw (class_other xs o s c p t e) g
 
 -- no entry has a class
