@@ -134,3 +134,6 @@ impl EventQueue {
         self.events.get(place).copied()
     }
 }
+
+#[cfg(test)]
+mod tests;
