@@ -1,0 +1,9 @@
+pub mod Names
+pub mod Registers
+pub mod Words
+pub mod Run
+pub mod Report
+pub mod Ending
+pub mod Leaves
+pub mod Refuses
+pub mod Codes

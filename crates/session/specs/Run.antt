@@ -1,0 +1,17 @@
+-- A run in progress, as a state of the run over flat memory. Source: this project's own rule.
+use Rattle.std.specs.Prelude.{ℕ, List}
+use Rattle.rv_step.specs.Run.{FlatState, loaded_state}
+use Rattle.rv_step.specs.FlatMem.{ram_base, zeroed, ram_put}
+use Rattle.session.specs.declared.run.FlatRun.{FlatRun}
+
+-- the run, whose console took these bytes since its start
+abbrev pub state_with : FlatRun → List ℕ → FlatState
+state_with r console = record { arch = r.arch; ram = r.ram; console = console; exit = r.exit; steps = r.steps }
+
+-- the size of flat memory in bytes
+abbrev pub flat_size : ℕ
+flat_size = 16777216
+
+-- the start: the image at the beginning of RAM, which is its entry, and zeros behind it
+abbrev pub flat_start : List ℕ → FlatState
+flat_start image = loaded_state ram_base (ram_put (zeroed flat_size) ram_base image)

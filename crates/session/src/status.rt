@@ -1,0 +1,32 @@
+// How a call of the program ends.
+ghost use Rattle.std.specs.Prelude.{◌≡◌};
+
+/// How a call ended. Its number is the status of the process.
+#[derive(Clone, Copy, Debug, PartialEq, Eq)]
+pub enum Status {
+    /// The work was done, and all its bytes were taken.
+    Done = 0,
+    /// The words are none of the forms.
+    Usage = 2,
+    /// The image is refused.
+    Image = 4,
+    /// A file is absent, or longer than its limit.
+    File = 7,
+    /// The store failed.
+    Store = 8,
+    /// The console or the report failed.
+    Sink = 9,
+    /// Memory could not be had.
+    Memory = 10,
+}
+
+impl Status {
+    ghost use Rattle.session.specs.Codes.{code_of};
+
+    /// The status of the process.
+    pub fn code(self) -> u8
+        ensures { result ≡ code_of self }
+    {
+        self as u8
+    }
+}

@@ -1,0 +1,44 @@
+// The words of the command line.
+ghost use Rattle.std.specs.Prelude.{◌≡◌, List, ℕ, map, Some, None, MatchOption, string_bytes};
+ghost use Rattle.session.specs.Words.{allowed_count, spelled_number, flat_request};
+
+use gc_text::read_dec;
+
+/// The most steps that `flat` makes.
+pub const MOST_STEPS: u64 = 1_000_000_000;
+
+/// What the words `flat IMAGE COUNT` ask for.
+#[derive(Clone, Copy)]
+pub struct FlatWords<'a> {
+    /// The name of the image's file.
+    pub image: &'a str,
+    /// The most steps that are made.
+    pub count: u64,
+}
+
+fn read_count(text: &str) -> Option<u64>
+    ensures { result ≡ allowed_count (spelled_number text.now) }
+{
+    match read_dec(text.as_bytes()) {
+        Some(n) if n <= MOST_STEPS => Some(n),
+        _ => None,
+    }
+}
+
+impl<'a> FlatWords<'a> {
+    /// The words after the program's name, where they are `flat`, a name and a number of steps.
+    pub fn read(words: &'a [String]) -> Option<FlatWords<'a>>
+        ensures { MatchOption result (flat_request (map string_bytes words.now) ≡ None) (λ w. flat_request (map string_bytes words.now) ≡ Some (record { image = w.image.now; count = w.count })) }
+    {
+        match words {
+            [form, image, count] if form.as_str() == "flat" => match read_count(count.as_str()) {
+                Some(count) => Some(FlatWords {
+                    image: image.as_str(),
+                    count,
+                }),
+                None => None,
+            },
+            _ => None,
+        }
+    }
+}
