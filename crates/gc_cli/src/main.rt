@@ -20,27 +20,27 @@ fn words_of<R: env::Env + AllocGlobal>(rt: &R) -> Result<Vec<String>, Status> {
     }
 }
 
+/// Refuses words that can't be had: a line for those that aren't UTF-8, and nothing for want of memory.
+fn refuse_words(status: Status, report: &mut impl Sink) -> Status {
+    match status {
+        Status::Usage if report.emit(b"usage\n").is_err() => Status::Sink,
+        other => other,
+    }
+}
+
 fn main(rt: HostRuntime) -> ExitCode {
-    let mut report = StdSink::new(rt.stderr());
-    let words = match words_of(&rt) {
-        Ok(words) => words,
-        Err(Status::Usage) => {
-            let said = report.emit(b"usage\n");
-            return ExitCode::from(if said.is_ok() {
-                Status::Usage.code()
-            } else {
-                Status::Sink.code()
-            });
-        }
-        Err(status) => return ExitCode::from(status.code()),
-    };
     let mut store = DirStore::new(&rt);
     let mut console = StdSink::new(io::writer(&rt));
-    ExitCode::from(gemcore(
-        rt.alloc(),
-        words.as_slice(),
-        &mut store,
-        &mut console,
-        &mut report,
-    ))
+    let mut report = StdSink::new(rt.stderr());
+    let status = match words_of(&rt) {
+        Ok(words) => gemcore(
+            rt.alloc(),
+            words.as_slice(),
+            &mut store,
+            &mut console,
+            &mut report,
+        ),
+        Err(status) => refuse_words(status, &mut report).code(),
+    };
+    ExitCode::from(status)
 }
