@@ -7,9 +7,12 @@ use std::alloc::{AllocError, Global};
 use std::process::Abort;
 use std::test::Fail;
 
-/// A word of text for each part between `|`.
+/// A word of text for each part between `|`, and none of no text.
 fn words_of(alloc: Global, text: &str) -> Result<Vec<String>, AllocError> {
     let mut words = Vec::new(alloc);
+    if text.is_empty() {
+        return Ok(words);
+    }
     for word in text.split('|') {
         words.push(word.to_string(alloc)?)?;
     }
