@@ -1,5 +1,5 @@
 -- What several calls that emit do together.
-use Rattle.std.proofs.Common.{◌≡◌, ℕ, ◌≤◌, List, [], ◌++◌, Bool, true, false, Option, refl, arith}
+use Rattle.std.proofs.Common.{ℕ, List, [], ◌++◌, Bool, true, false, Option, refl, arith}
 use Rattle.gc_outside.specs.Emits.{Emits}
 use Rattle.gc_outside.proofs.Outputs.{told_appends_nothing, told_appends, told_appends_front, told_front_of_more, rose_later}
 

@@ -6,6 +6,8 @@ pub mod KeptFiles
 pub mod PlannedFaults
 pub mod TakenBytes
 pub mod MemSink
+pub mod StdSink
+pub mod DirStore
 pub mod SureSink
 pub mod MemStore
 pub mod SureStore

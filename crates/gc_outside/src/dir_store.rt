@@ -1,7 +1,11 @@
 // A store over the files of the system.
-ghost use Rattle.std.specs.Prelude.{◌≡◌, ◌≤◌, [], None, IfOk, option_map};
+ghost use Rattle.std.specs.Prelude.{◌≡◌, ◌≤◌, None, Some, IfOk, IfSome, IsSome, OnOk, OnErr, is_ok};
+ghost use Rattle.std.specs.Io.KnownBytes.{Appends};
+ghost use Rattle.gc_outside.specs.DirStore.{open_file};
 ghost use Rattle.gc_outside.specs.Faults.{Rose};
-ghost use Rattle.gc_outside.specs.Store.{IsWithin};
+ghost use Rattle.gc_outside.specs.PlannedFaults.{counted, faults_after};
+ghost use Rattle.gc_outside.specs.Store.{AnswersFile, AppendsToOpen, CutsOpen, IsWithin};
+ghost use Rattle.gc_outside.specs.Told.{Told};
 
 use crate::faults::Failed;
 use crate::store::{GetError, Got, Store};
@@ -9,6 +13,7 @@ use gc_base::Octets;
 use std::alloc::Global;
 use std::fs;
 use std::io::{ErrorKind, Read, Write};
+use std::marker::Model;
 use std::rt::Files;
 
 /// How many bytes one read asks of the system.
@@ -24,9 +29,19 @@ pub struct DirStore<'a, R: Files> {
     faults: u64,
 }
 
+impl<'a, R: Files> Model for DirStore<'a, R> {
+    ghost use Rattle.gc_outside.specs.DirStore.{DirStoreState};
+
+    ghost Value = { DirStoreState R.File };
+
+    ghost view = { λ s. record { file = s.file; faults = s.faults } };
+}
+
 impl<'a, R: Files> DirStore<'a, R> {
     /// The files that the runtime reaches, with no put open and no fault counted.
-    pub fn new(rt: &'a R) -> DirStore<'a, R> {
+    pub fn new(rt: &'a R) -> DirStore<'a, R>
+        ensures { result ≡ record { file = None; faults = 0 } }
+    {
         DirStore {
             rt,
             file: None,
@@ -37,6 +52,7 @@ impl<'a, R: Files> DirStore<'a, R> {
 
 // The fault count after one more fault.
 fn one_more(faults: &mut u64) -> Failed
+    ensures exact { faults.new ≡ counted faults.old }
     ensures rose { Rose faults.old faults.new }
     ensures count { faults.old ≤ faults.new }
 {
@@ -45,8 +61,11 @@ fn one_more(faults: &mut u64) -> Failed
 }
 
 /// The rest of a file, where it has at most so many bytes.
-fn read_rest(file: &mut impl Read, alloc: Global, most: usize) -> Result<Got, GetError>
-    ensures { IfOk result (IsWithin most) }
+fn read_rest<F: Read>(file: &mut F, alloc: Global, most: usize) -> Result<Got, GetError>
+    ensures within { IfOk result (IsWithin most) }
+
+    // Where the file is one whose bytes are known, the answer is theirs.
+    ensures answer { IfOk result (λ got. IfSome (F.remaining file.old) (λ rest. AnswersFile most (Some rest) got)) }
 {
     let mut bytes = Vec::new(alloc);
     let mut chunk = [0u8; CHUNK];
@@ -80,7 +99,7 @@ fn read_file<R: Files>(rt: &R, alloc: Global, name: &str, most: usize) -> Result
 impl<R: Files> Store for DirStore<'_, R> {
     ghost files = { λ _. None };
 
-    ghost open_put = { λ s. option_map (λ _. []) s.file };
+    ghost open_put = { λ s. open_file s.file };
 
     ghost faults = { λ s. s.faults };
 
@@ -102,7 +121,22 @@ impl<R: Files> Store for DirStore<'_, R> {
         Ok(())
     }
 
-    fn piece(&mut self, bytes: &[u8]) -> Result<(), Failed> {
+    fn piece(&mut self, bytes: &[u8]) -> Result<(), Failed>
+        requires { IsSome (open_file self.old.file) }
+
+        // Where the file is one whose bytes are known, it gained these.
+        ensures written { OnOk result (IfSome self.old.file (λ old. IfSome self.new.file (λ new.
+            Appends (R.File.contents old) (R.File.contents new) bytes.now))) }
+        ensures counted { self.new.faults ≡ faults_after (is_ok result) self.old.faults }
+
+        // As of every store.
+        ensures whole { OnOk result (Told (AppendsToOpen (open_file self.old.file) bytes.now) None None) }
+        ensures front { OnErr result (Told (CutsOpen (open_file self.old.file) bytes.now) None None) }
+        ensures same_put { OnOk result (open_file self.new.file ≡ open_file self.old.file) }
+        ensures ended { OnErr result (open_file self.new.file ≡ None) }
+        ensures cause { OnErr result (Rose self.old.faults self.new.faults) }
+        ensures count { self.old.faults ≤ self.new.faults }
+    {
         let Some(mut file) = self.file.take() else {
             unreachable!()
         };
@@ -141,8 +175,8 @@ mod tests {
         assert!(rt; put(&mut store, name, b"123", b"45").is_ok());
         assert!(rt; is_bytes(store.get(rt.alloc(), name, 5), b"12345"));
         assert!(rt; matches!(store.get(rt.alloc(), name, 4), Ok(Got::Longer)));
-        assert!(rt; put(&mut store, nowhere.as_str(), b"1", b"2").is_err());
         fs::remove_file(&rt, name)?;
+        assert!(rt; put(&mut store, nowhere.as_str(), b"1", b"2").is_err());
         assert!(rt; matches!(store.get(rt.alloc(), name, 5), Ok(Got::Absent)));
         assert!(rt;
             matches!(

@@ -1,9 +1,13 @@
 // A sink over a stream of the system.
-ghost use Rattle.std.specs.Prelude.{None};
+ghost use Rattle.std.specs.Prelude.{◌≡◌, ◌≤◌, None, OnOk, OnErr, is_ok};
+ghost use Rattle.std.specs.Io.KnownBytes.{Appends};
+ghost use Rattle.gc_outside.specs.Faults.{Rose};
+ghost use Rattle.gc_outside.specs.PlannedFaults.{faults_after};
 
 use crate::faults::Failed;
 use crate::sink::Sink;
 use std::io::Write;
+use std::marker::Model;
 
 /// Writes to a stream, as standard output or standard error, with no buffer of its own. It tells nothing of what it took.
 ///
@@ -14,9 +18,19 @@ pub struct StdSink<W: Write + Drop> {
     faults: u64,
 }
 
+impl<W: Write + Drop> Model for StdSink<W> {
+    ghost use Rattle.gc_outside.specs.StdSink.{StdSinkState};
+
+    ghost Value = { StdSinkState W };
+
+    ghost view = { λ s. record { stream = s.stream; faults = s.faults } };
+}
+
 impl<W: Write + Drop> StdSink<W> {
     /// A sink over the stream, with no fault counted.
-    pub fn new(w: W) -> StdSink<W> {
+    pub fn new(w: W) -> StdSink<W>
+        ensures { result ≡ record { stream = w; faults = 0 } }
+    {
         StdSink {
             stream: w,
             faults: 0,
@@ -29,7 +43,15 @@ impl<W: Write + Drop> Sink for StdSink<W> {
 
     ghost faults = { λ s. s.faults };
 
-    fn emit(&mut self, bytes: &[u8]) -> Result<(), Failed> {
+    fn emit(&mut self, bytes: &[u8]) -> Result<(), Failed>
+        // Where the stream is one whose bytes are known, it gained these.
+        ensures written { OnOk result (Appends (W.contents self.old.stream) (W.contents self.new.stream) bytes.now) }
+        ensures counted { self.new.faults ≡ faults_after (is_ok result) self.old.faults }
+
+        // As of every sink.
+        ensures cause { OnErr result (Rose self.old.faults self.new.faults) }
+        ensures count { self.old.faults ≤ self.new.faults }
+    {
         match self.stream.write_all(bytes) {
             Ok(()) => Ok(()),
             Err(_) => {
