@@ -175,6 +175,12 @@ mod tests {
         assert!(rt; put(&mut store, name, b"123", b"45").is_ok());
         assert!(rt; is_bytes(store.get(rt.alloc(), name, 5), b"12345"));
         assert!(rt; matches!(store.get(rt.alloc(), name, 4), Ok(Got::Longer)));
+        assert!(rt;
+            matches!(
+                store.get(rt.alloc(), nowhere.as_str(), 5),
+                Err(GetError::Failed)
+            )
+        );
         fs::remove_file(&rt, name)?;
         assert!(rt; put(&mut store, nowhere.as_str(), b"1", b"2").is_err());
         assert!(rt; matches!(store.get(rt.alloc(), name, 5), Ok(Got::Absent)));
@@ -184,7 +190,7 @@ mod tests {
                 Err(GetError::Failed)
             )
         );
-        assert_eq!(rt; store.faults, 2);
+        assert_eq!(rt; store.faults, 3);
         Ok(())
     }
 }
