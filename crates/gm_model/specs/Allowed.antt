@@ -1,0 +1,60 @@
+-- What a part may be configured with, and what may come to it. This project's own rules.
+use Rattle.std.specs.Prelude.{◌≡◌, ℕ, ◌%◌, ◌^◌, ◌≤◌, ◌==◌, ◌||◌, IsTrue}
+use Rattle.gc_base.specs.declared.limits.TheConstants.{RAM_MIN, RAM_MAX, PAGE, LATENCY_MAX, PERIOD_MAX, SETS_MAX, WAYS_MAX, MISS_REGISTERS_MAX, TARGETS_MAX, WRITE_QUEUE_MAX, MEMORY_QUEUE_MAX, DMA_WINDOW_MAX}
+use Rattle.gm_model.specs.HartLine.{is_line}
+use Rattle.gm_model.specs.ObjState.{ObjState, Blank, AtomicCpu, Server}
+use Rattle.gm_model.specs.declared.own.Own.{Own}
+use Rattle.gm_model.specs.declared.own.Own.TheVariants as owns
+use Rattle.gm_model.specs.declared.packet.Packet.{Packet}
+use Rattle.gm_model.specs.declared.params.Params.{Params}
+use Rattle.gm_model.specs.declared.wake.Wake.{Wake}
+use Rattle.gm_model.specs.declared.wake.Wake.TheVariants as wakes
+
+-- a number from 1 to its limit
+abbrev pub IsUpTo : ℕ → ℕ → Type 0
+IsUpTo most n = (1 ≤ n) × (n ≤ most)
+
+-- the values of a kind's keys are within their limits
+abbrev pub AreAllowed : Own → Type 0
+AreAllowed (owns.AtomicCpu period) = IsUpTo PERIOD_MAX period
+AreAllowed (owns.TimingCpu period) = IsUpTo PERIOD_MAX period
+AreAllowed (owns.Xbar latency ports) = IsUpTo LATENCY_MAX latency
+AreAllowed (owns.Cache source sets ways mshrs targets writeq latency) =
+    IsUpTo SETS_MAX sets × IsUpTo WAYS_MAX ways × IsUpTo MISS_REGISTERS_MAX mshrs × IsUpTo TARGETS_MAX targets
+    × IsUpTo WRITE_QUEUE_MAX writeq × IsUpTo LATENCY_MAX latency
+AreAllowed (owns.Mem latency queue) = IsUpTo LATENCY_MAX latency × IsUpTo MEMORY_QUEUE_MAX queue
+AreAllowed (owns.Uart latency chartime) = IsUpTo LATENCY_MAX latency × IsUpTo LATENCY_MAX chartime
+AreAllowed (owns.Timer latency period) = IsUpTo LATENCY_MAX latency × IsUpTo PERIOD_MAX period
+AreAllowed (owns.Exit latency) = IsUpTo LATENCY_MAX latency
+AreAllowed (owns.Dma latency period window) =
+    IsUpTo LATENCY_MAX latency × IsUpTo PERIOD_MAX period × IsUpTo DMA_WINDOW_MAX window
+
+-- what a part may be configured with: lines of 16, 32 or 64 bytes, whole pages of RAM, and the keys of its kind
+pub record IsAllowed (p : Params) : Type 0 where
+  pub line : IsTrue ((p.line == 16) || (p.line == 32) || (p.line == 64))
+  pub least : RAM_MIN ≤ p.ram
+  pub most : p.ram ≤ RAM_MAX
+  pub pages : p.ram % PAGE ≡ 0
+  pub own : AreAllowed p.own
+
+-- a wake that may come to an atomic CPU: the latency of a way is bounded, and a line is one of the hart's
+abbrev pub MayWakeCpu : Wake → Type 0
+MayWakeCpu (wakes.AtomicDone p latency) = latency ≤ 2 ^ 32
+MayWakeCpu (wakes.Line bit level) = IsTrue (is_line bit)
+MayWakeCpu (wakes.Event slot) = Unit {0}
+MayWakeCpu (wakes.Offer port p) = Unit {0}
+MayWakeCpu (wakes.Taken port) = Unit {0}
+MayWakeCpu (wakes.Refused port) = Unit {0}
+MayWakeCpu (wakes.Retry port) = Unit {0}
+
+-- a wake that may come to a part
+abbrev pub MayWake : ObjState → Wake → Type 0
+MayWake (Blank k) w = Unit {0}
+MayWake (AtomicCpu s) w = MayWakeCpu w
+MayWake (Server s) w = Unit {0}
+
+-- a packet that may be passed to a part, at once or without time: to a server, one with bytes for its whole size
+abbrev pub MayPass : ObjState → Packet → Type 0
+MayPass (Blank k) p = Unit {0}
+MayPass (AtomicCpu s) p = Unit {0}
+MayPass (Server s) p = p.size ≤ 64

@@ -1,0 +1,81 @@
+-- The states of the parts: one record for each kind, with plain lists and numbers. This project's own rules.
+use Rattle.std.specs.Prelude.{ℕ, Bool, List, Option}
+use Rattle.rv_step.specs.declared.arch.Arch.{Arch}
+use Rattle.gm_model.specs.Flow.{Flow}
+use Rattle.gm_model.specs.declared.kind.Kind.{Kind}
+use Rattle.gm_model.specs.declared.kind.Kind.TheVariants as kinds
+
+-- what each part has: its number, the sizes of a line and of RAM, the mode, and whether it is draining
+pub record Common : Type 0 where
+  pub object : ℕ
+  pub line : ℕ
+  pub ram : ℕ
+  pub timing : Bool
+  pub draining : Bool
+
+-- where an atomic CPU stands: between two instructions, or before the response to a fetch, or to the data access of the
+-- word, with the latency of its fetch
+pub data CpuStage : Type 0 where
+  Rest : CpuStage
+  AwaitFetch : CpuStage
+  AwaitData : (word latency : ℕ) → CpuStage
+
+-- an atomic CPU: the hart's state, where it is active, its stage, and whether its event is pending
+pub record AtomicCpuState : Type 0 where
+  pub common : Common
+  pub period : ℕ
+  pub arch : Option Arch
+  pub stage : CpuStage
+  pub due : Bool
+
+-- a UART: whether a byte is being sent, which takes `chartime`, and the input, oldest byte first
+pub record UartState : Type 0 where
+  pub chartime : ℕ
+  pub busy : Bool
+  pub input : List ℕ
+
+-- what a server serves: RAM's bytes, a UART, or an exit device with the number that it keeps
+pub data Device : Type 0 where
+  Memory : (bytes : List ℕ) → Device
+  Uart : UartState → Device
+  Exit : (code : Option ℕ) → Device
+
+-- a server: how long one request takes, how many places its queue has, the queue, whether a requestor that was refused
+-- waits, and the device
+pub record ServerState : Type 0 where
+  pub common : Common
+  pub latency : ℕ
+  pub places : ℕ
+  pub flow : Flow
+  pub waiter : Bool
+  pub device : Device
+
+-- a part that isn't configured yet has its kind alone
+pub data ObjState : Type 0 where
+  Blank : Kind → ObjState
+  AtomicCpu : AtomicCpuState → ObjState
+  Server : ServerState → ObjState
+
+-- the kind that serves a device
+abbrev pub device_kind : Device → Kind
+device_kind (Memory bytes) = kinds.Mem
+device_kind (Uart u) = kinds.Uart
+device_kind (Exit code) = kinds.Exit
+
+-- the kind of a part
+abbrev pub kind_of : ObjState → Kind
+kind_of (Blank k) = k
+kind_of (AtomicCpu s) = kinds.AtomicCpu
+kind_of (Server s) = device_kind s.device
+
+-- the number of a part; a blank one has none yet
+abbrev pub object_of : ObjState → ℕ
+object_of (Blank k) = 0
+object_of (AtomicCpu s) = s.common.object
+object_of (Server s) = s.common.object
+
+-- it isn't configured yet
+abbrev pub IsBlank : ObjState → Type 0
+IsBlank (Blank k) = Unit {0}
+IsBlank (AtomicCpu s) = ⊥
+IsBlank (Server s) = ⊥

@@ -1,0 +1,109 @@
+-- How far a run goes, and what the console gets. This project's own rules.
+use Rattle.std.specs.Prelude.{ℕ, zero, suc, ◌+◌, ◌==◌, nat_lt, nat_le, ◌&&◌, Bool, false, not, if◌then◌else◌, List, [], ◌∷◌, ◌++◌, take, Option, Some, None}
+use Rattle.ev_queue.specs.declared.due.Due.{Due}
+use Rattle.ev_queue.specs.PendingList.{first}
+use Rattle.rv_step.specs.Flat.{uart_base}
+use Rattle.gm_model.specs.Platform.{data_source}
+use Rattle.gm_model.specs.ObjState.{ObjState}
+use Rattle.gm_model.specs.Command.{exit_code}
+use Rattle.gm_model.specs.Sys.{Sys}
+use Rattle.gm_model.specs.Fire.{Ran, not_begun, one_more, timed_run}
+use Rattle.gm_model.specs.declared.entry.Entry.{Entry}
+use Rattle.gm_model.specs.declared.entry.Entry.TheVariants as entries
+use Rattle.gm_model.specs.declared.goal.Goal.{Goal}
+use Rattle.gm_model.specs.declared.goal.Reason.{Reason}
+use Rattle.gm_model.specs.declared.goal.Reason.TheVariants as reasons
+use Rattle.gm_model.specs.declared.goal.Until.{Until}
+use Rattle.gm_model.specs.declared.goal.Until.TheVariants as untils
+
+-- the greatest tick at which a run serves an event, 2^62
+abbrev pub last_tick : ℕ
+last_tick = 4611686018427387904
+
+-- the number of instructions that retired
+abbrev pub retired_in : List Entry → ℕ
+retired_in [] = 0
+retired_in (e ∷ es) = retired_by e + retired_in es where
+  retired_by : Entry → ℕ
+  retired_by (entries.Retired pc word) = 1
+  retired_by (entries.Served src id write addr size bytes device fault) = 0
+  retired_by (entries.Trapped cause tval) = 0
+  retired_by (entries.Line bit level) = 0
+  retired_by entries.Slept = 0
+  retired_by (entries.Hit object) = 0
+  retired_by (entries.Miss object) = 0
+  retired_by (entries.Refused object) = 0
+
+-- the bytes that an entry brings to the console: a byte that the hart writes at the UART's offset 0, unrefused
+abbrev pub console_bytes : Entry → List ℕ
+console_bytes (entries.Served src id write addr size bytes device fault) =
+    if (src == data_source) && write && (addr == uart_base) && (size == 1) && not fault then take 1 bytes else []
+console_bytes (entries.Retired pc word) = []
+console_bytes (entries.Trapped cause tval) = []
+console_bytes (entries.Line bit level) = []
+console_bytes entries.Slept = []
+console_bytes (entries.Hit object) = []
+console_bytes (entries.Miss object) = []
+console_bytes (entries.Refused object) = []
+
+-- the bytes that entries bring to the console
+abbrev pub console_of : List Entry → List ℕ
+console_of [] = []
+console_of (e ∷ es) = console_bytes e ++ console_of es
+
+-- the number with which the guest has exited, if it has
+abbrev pub exit_of : List ObjState → Option ℕ
+exit_of [] = None
+exit_of (o ∷ os) = first_code (exit_code o) (exit_of os) where
+  first_code : Option ℕ → Option ℕ → Option ℕ
+  first_code (Some n) later = Some n
+  first_code None later = later
+
+-- as many instructions have retired as were asked for
+abbrev pub has_retired : Until → ℕ → Bool
+has_retired (untils.Insts n) insts = nat_le n insts
+has_retired (untils.Tick t) insts = false
+has_retired untils.End insts = false
+
+-- the tick is after the one that was asked for
+abbrev pub is_late : Until → ℕ → Bool
+is_late (untils.Tick t) tick = nat_lt t tick
+is_late (untils.Insts n) tick = false
+is_late untils.End tick = false
+
+-- why the next event isn't served, if it isn't, once n events were
+abbrev pub due_reason : Goal → ℕ → Option Due → Option Reason
+due_reason g n None = Some reasons.Idle
+due_reason g n (Some d) =
+    if nat_lt last_tick d.tick then Some reasons.TickLimit
+    else if is_late g.until d.tick then Some reasons.Tick
+    else if nat_le g.budget n then Some reasons.Limit
+    else None
+
+-- why a run ends after n events, if it does: the first reason that holds
+abbrev pub exit_reason : Goal → ℕ → Ran → Option ℕ → Option Reason
+exit_reason g n r (Some code) = Some (reasons.Exit code)
+exit_reason g n r None =
+    if has_retired g.until (retired_in r.entries) then Some reasons.Insts else due_reason g n (first r.sys.pending)
+
+abbrev pub reason_at : Goal → ℕ → Ran → Option Reason
+reason_at g n r = exit_reason g n r (exit_of r.sys.objects)
+
+-- a run that has ended: where it stands and what it noted, after how many events, and why
+pub record RunEnd : Type 0 where
+  pub ran : Ran
+  pub events : ℕ
+  pub reason : Reason
+
+-- the run of n events goes on until a reason holds, for at most so many events
+unfoldable pub run_on : ℕ → Goal → ℕ → Ran → RunEnd
+run_on zero g n r = record { ran = r; events = n; reason = reasons.Limit }
+run_on (suc fuel) g n r =
+    elim (reason_at g n r) [
+      | Some why ↦ record { ran = r; events = n; reason = why }
+      | None ↦ run_on fuel g (n + 1) (one_more r)
+    ]
+
+-- the run to a goal
+unfoldable pub run_to : Sys → Goal → RunEnd
+run_to s g = run_on (suc g.budget) g 0 (not_begun s)

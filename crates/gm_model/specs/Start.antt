@@ -1,0 +1,93 @@
+-- How a machine begins: built, loaded with an image, resumed. This project's own rules.
+use Rattle.std.specs.Prelude.{ℕ, ◌+◌, ◌-◌, Bool, true, false, List, [], ◌∷◌, ◌++◌, length, map, replicate, Option, Some, None}
+use Rattle.ev_queue.specs.declared.due.Due.{Due}
+use Rattle.rv_step.specs.Arch.{reset}
+use Rattle.gm_model.specs.Platform.{Part, platform}
+use Rattle.gm_model.specs.Router.{router_of}
+use Rattle.gm_model.specs.Counts.{no_counts}
+use Rattle.gm_model.specs.ObjState.{ObjState, Blank, object_of}
+use Rattle.gm_model.specs.Stepped.{Commanded, changed}
+use Rattle.gm_model.specs.Command.{start_of, with_own_bytes, with_arch, drain_step, resume_step}
+use Rattle.gm_model.specs.Sys.{Sys}
+use Rattle.gm_model.specs.declared.config.Config.{Config}
+use Rattle.gm_model.specs.declared.kind.Kind.{Kind}
+use Rattle.gm_model.specs.declared.kind.Kind.TheVariants as kinds
+use Rattle.gm_model.specs.declared.own.Own.{Own}
+use Rattle.gm_model.specs.declared.own.Own.TheVariants as owns
+use Rattle.gm_model.specs.declared.params.Params.{Params}
+
+-- what a part of a kind that is built is configured with
+abbrev pub own_of : Config → Kind → Option Own
+own_of c kinds.AtomicCpu = Some (owns.AtomicCpu c.cpu_period)
+own_of c kinds.Mem = Some (owns.Mem c.mem_latency c.mem_queue)
+own_of c kinds.Uart = Some (owns.Uart c.uart_latency c.uart_chartime)
+own_of c kinds.Exit = Some (owns.Exit c.exit_latency)
+own_of c kinds.TimingCpu = None
+own_of c kinds.Xbar = None
+own_of c kinds.Cache = None
+own_of c kinds.Timer = None
+own_of c kinds.Dma = None
+
+-- the params of the object i
+abbrev pub params_of : Config → ℕ → Own → Params
+params_of c i own = record { object = record { 0 = i }; line = c.system_line; ram = c.system_ram; own = own }
+
+-- the object i of a kind at its start
+abbrev pub built_object : Config → ℕ → Kind → ObjState
+built_object c i k = elim (own_of c k) [ Some own ↦ start_of (params_of c i own) own | None ↦ Blank k ]
+
+-- the parts from a number on, each at its start
+abbrev pub built_objects : Config → ℕ → List Part → List ObjState
+built_objects c i [] = []
+built_objects c i (p ∷ ps) = built_object c i p.kind ∷ built_objects c (i + 1) ps
+
+-- the hart is reset in the CPU of the configured mode
+abbrev pub cpu_started : ℕ → Bool → ObjState → ObjState
+cpu_started entry true o = o
+cpu_started entry false o = with_arch (Some (reset entry)) o
+
+-- RAM has these bytes
+abbrev pub ram_loaded : List ℕ → ObjState → ObjState
+ram_loaded ram o = with_own_bytes 0 ram o
+
+-- the machine at tick 0 with these bytes in RAM and the hart at an entry: nothing is pending, and it is draining
+abbrev pub start_state : Config → ℕ → List ℕ → Sys
+start_state c entry ram = record {
+  tick = 0;
+  pending = [];
+  objects = map (λ o. cpu_started entry c.system_model (ram_loaded ram o)) (built_objects c 0 (platform c));
+  next = 0;
+  counts = no_counts (length (platform c));
+  rebased = 0;
+  trace = false;
+  draining = true;
+  router = router_of c;
+}
+
+-- RAM of a size with these bytes in front, and zeros behind
+abbrev pub ram_with_front : ℕ → List ℕ → List ℕ
+ram_with_front size bytes = bytes ++ replicate (size - length bytes) 0
+
+-- the pending events once each part, in the order of the paths, was commanded
+abbrev pub commanded_events : (ObjState → Commanded) → List ObjState → List Due → List Due
+commanded_events f [] es = es
+commanded_events f (o ∷ os) es = commanded_events f os (changed (object_of o) es (f o).changes)
+
+-- each part was commanded
+abbrev pub commanded : (ObjState → Commanded) → Sys → Sys
+commanded f s = record s {
+  pending = commanded_events f s.objects s.pending;
+  objects = map (λ o. (f o).state) s.objects;
+}
+
+-- each part is asked to drain
+abbrev pub drain_begun : Sys → Sys
+drain_begun s = record (commanded drain_step s) { draining = true }
+
+-- each part goes on
+abbrev pub resumed_state : Sys → Sys
+resumed_state s = record (commanded (λ o. resume_step o s.tick) s) { draining = false }
+
+-- packets, counts and trace begin anew
+abbrev pub rebase : Sys → Sys
+rebase s = record s { next = 0; counts = no_counts (length s.objects); rebased = s.tick; trace = false }
