@@ -5,3 +5,4 @@ pub mod ReplayLemmas
 pub mod ReplaySteps
 pub mod ReplayServes
 pub mod ReplayRuns
+pub mod RunEnds

@@ -1,5 +1,5 @@
 -- How far a run goes, and what the console gets. This project's own rules.
-use Rattle.std.specs.Prelude.{ℕ, zero, suc, ◌+◌, ◌==◌, nat_lt, nat_le, ◌&&◌, Bool, false, not, if◌then◌else◌, List, [], ◌∷◌, ◌++◌, take, Option, Some, None}
+use Rattle.std.specs.Prelude.{◌≡◌, ℕ, zero, suc, ◌+◌, ◌<◌, ◌==◌, nat_lt, nat_le, ◌&&◌, Bool, false, not, if◌then◌else◌, List, [], ◌∷◌, ◌++◌, take, Option, Some, None}
 use Rattle.ev_queue.specs.declared.due.Due.{Due}
 use Rattle.ev_queue.specs.PendingList.{first}
 use Rattle.rv_step.specs.Flat.{uart_base}
@@ -101,9 +101,19 @@ run_on zero g n r = record { ran = r; events = n; reason = reasons.Limit }
 run_on (suc fuel) g n r =
     elim (reason_at g n r) [
       | Some why ↦ record { ran = r; events = n; reason = why }
-      | None ↦ run_on fuel g (n + 1) (one_more r)
+      | None ↦ run_on fuel g (suc n) (one_more r)
     ]
 
 -- the run to a goal
 unfoldable pub run_to : Sys → Goal → RunEnd
 run_to s g = run_on (suc g.budget) g 0 (not_begun s)
+
+-- the run from s to the goal ends after r's events for r's reason, and for none before
+pub record EndsRun (s : Sys) (g : Goal) (r : RunEnd) : Type 0 where
+  pub ran : r.ran ≡ timed_run s r.events
+  pub ends : reason_at g r.events (timed_run s r.events) ≡ Some r.reason
+  pub least : (k : ℕ) → k < r.events → reason_at g k (timed_run s k) ≡ None
+
+-- each run to a goal is one of least events
+pub record RunsEnd : Type 0 where
+  pub run : (s : Sys) (g : Goal) → EndsRun s g (run_to s g)

@@ -1,6 +1,7 @@
 // The laws of the model, each as the contract of a function that does nothing.
 ghost use Rattle.gm_model.specs.Laws.{ChangesOwnEventsOnly, KeepsOthersEvents, KeepsPart, StepsAreSmall, SleepersStay, TellsDueEvents};
 ghost use Rattle.gm_model.specs.AtomicMachine.{StepsAreReplayed, RunsAreReplayed};
+ghost use Rattle.gm_model.specs.Run.{RunsEnd};
 ghost use Rattle.gm_model.specs.Example.{RunsStoreAndExit};
 
 /// A part's rules change events of its own slots alone, and those of the others stay in their order.
@@ -38,6 +39,11 @@ pub fn steps_are_replayed()
 /// From the start on whole events are replayed, whichever pending one is served at whatever tick, and so are whole runs.
 pub fn runs_are_replayed()
     ensures { RunsAreReplayed }
+{}
+
+/// A run to a goal ends after the least number of events for which there is a reason, and with the first that holds.
+pub fn runs_end()
+    ensures { RunsEnd }
 {}
 
 /// What the example runs to: computed, and not a law.

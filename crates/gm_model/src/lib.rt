@@ -29,8 +29,8 @@ pub use entry::Entry;
 pub use goal::{Goal, Reason, Until};
 pub use kind::Kind;
 pub use laws::{
-    changes_own_events_only, keeps_part, runs_are_replayed, runs_store_and_exit, sleepers_stay,
-    steps_are_replayed, steps_are_small, tells_due_events,
+    changes_own_events_only, keeps_part, runs_are_replayed, runs_end, runs_store_and_exit,
+    sleepers_stay, steps_are_replayed, steps_are_small, tells_due_events,
 };
 pub use own::Own;
 pub use packet::Packet;

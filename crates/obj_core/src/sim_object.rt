@@ -27,8 +27,11 @@ use std::alloc::Global;
 /// - A part is configured once, and only that takes memory.
 /// - What a part does at a wake depends on its own state, the next packet number and the tick alone.
 /// - It changes no event but its own, by the handles that it was configured with (`ChangesOwnEventsOnly`).
-/// - It calls no other part. What it wants of another it asks for in the outbox, and the kernel delivers it.
+/// - It calls no other part. What it wants of another it asks for in the outbox, and the kernel delivers it in order.
+/// - An offer is answered at once, `Taken` or `Refused`. Who was refused keeps the packet until it is called (`Retry`).
+/// - Who refused calls those that wait, once it can take a packet again, and each of them once.
 /// - It draws a packet number for each request that it makes, and a response keeps the number.
+/// - A packet that is passed at once is served, or passed on, before the call ends.
 /// - Functional access changes nothing but the packet.
 /// - A part that drains begins nothing new between two instructions, and goes on where it is resumed.
 pub trait SimObject: Drop {
