@@ -1,0 +1,23 @@
+-- The state that an atomic CPU shows. This project's own rule.
+use Rattle.std.specs.Prelude.{Option, Some, None}
+use Rattle.rv_step.specs.declared.arch.Arch.{Arch}
+use Rattle.gm_model.specs.ObjState.{ObjState, Blank, AtomicCpu, AtomicCpuState}
+use Rattle.gm_model.specs.declared.kind.Kind.TheVariants as kinds
+use Rattle.cpu_atomic.specs.Kept.{stage_of}
+use Rattle.cpu_atomic.specs.declared.frame.Frame.{Frame}
+use Rattle.cpu_atomic.specs.declared.running.Running.{Running}
+
+-- what a configured one shows with this hart
+abbrev pub shown_frame : Frame → Option Arch → AtomicCpuState
+shown_frame f a = record {
+  common = record { object = f.object.0; line = f.line; ram = f.ram; timing = f.timing; draining = f.draining };
+  period = f.period;
+  arch = a;
+  stage = stage_of f.stage;
+  due = f.due;
+}
+
+-- what one shows; one that isn't configured is blank
+abbrev pub shown : Option Running → ObjState
+shown None = Blank kinds.AtomicCpu
+shown (Some r) = AtomicCpu (shown_frame r.frame r.arch)

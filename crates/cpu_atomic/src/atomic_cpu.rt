@@ -1,0 +1,161 @@
+// The atomic CPU.
+ghost use Rattle.std.specs.Prelude.{◌≡◌};
+ghost use Rattle.gm_model.specs.declared.kind.Kind.TheVariants as kinds;
+
+use crate::running::Running;
+use ev_queue::EventQueue;
+use gc_base::{NoMemory, Tick};
+use gm_model::{Answer, Kind, Own, Packet, Params, Wake, Way};
+use obj_core::{Handles, LineInfo, Outbox, SimObject};
+use rv_step::Arch;
+use std::alloc::Global;
+
+/// A CPU that does one instruction at each event, with its accesses passed at once.
+#[derive(Drop)]
+pub struct AtomicCpu {
+    running: Option<Running>,
+}
+
+impl AtomicCpu {
+    ghost use Rattle.gm_model.specs.ObjState.{Blank};
+    ghost use Rattle.cpu_atomic.specs.Shown.{shown};
+
+    /// One that isn't configured.
+    pub fn blank() -> AtomicCpu
+        ensures { shown result.running ≡ Blank kinds.AtomicCpu }
+    {
+        AtomicCpu { running: None }
+    }
+}
+
+impl SimObject for AtomicCpu {
+    ghost use Rattle.cpu_atomic.specs.Shown.{shown};
+
+    ghost state = { λ s. shown s.running };
+
+    fn kind(&self) -> Kind {
+        Kind::AtomicCpu
+    }
+
+    fn configure(
+        &mut self,
+        _alloc: Global,
+        params: &Params,
+        handles: Handles,
+    ) -> Result<(), NoMemory> {
+        let mut mine = handles.cpu;
+        if let Own::AtomicCpu { period } = params.own {
+            if let Some(handle) = mine.pop() {
+                self.running = Some(Running::start(params, period, handle));
+            }
+        }
+        Ok(())
+    }
+
+    #[tactic(auto, unfolding(gm_model::specs::ObjectStep::object_step))]
+    fn wake(&mut self, w: Wake, now: Tick, q: &mut EventQueue, out: &mut Outbox) -> Answer {
+        if let Some(r) = &mut self.running {
+            match w {
+                Wake::Event { slot } => {
+                    if slot.0 == 0 {
+                        r.event(now, q, out);
+                    }
+                }
+                Wake::AtomicDone { pkt, latency } => r.done(now, &pkt, latency, q, out),
+                Wake::Line { bit, level } => r.lined(now, bit, level, q, out),
+                Wake::Offer { .. } => {}
+                Wake::Taken { .. } => {}
+                Wake::Refused { .. } => {}
+                Wake::Retry { .. } => {}
+            }
+        }
+        Answer::Nothing
+    }
+
+    #[tactic(auto, unfolding(gm_model::specs::ObjectStep::atomic_step))]
+    fn atomic(
+        &mut self,
+        _p: &mut Packet,
+        _now: Tick,
+        _q: &mut EventQueue,
+        _out: &mut Outbox,
+    ) -> Way {
+        Way::Done { latency: 0 }
+    }
+
+    #[tactic(auto, unfolding(gm_model::specs::ObjectStep::functional_step))]
+    fn functional(&self, _p: &mut Packet) -> Way {
+        Way::Done { latency: 0 }
+    }
+
+    fn own_bytes(&self, _at: u64, _to: &mut [u8]) -> bool {
+        false
+    }
+
+    fn put_own_bytes(&mut self, _at: u64, _from: &[u8]) -> bool {
+        false
+    }
+
+    fn set_mode(&mut self, timing: bool) {
+        if let Some(r) = &mut self.running {
+            r.frame.timing = timing;
+        }
+    }
+
+    fn drain(&mut self, q: &mut EventQueue) {
+        if let Some(r) = &mut self.running {
+            r.drain(q);
+        }
+    }
+
+    fn drained(&self) -> bool {
+        match &self.running {
+            Some(r) => r.drained(),
+            None => true,
+        }
+    }
+
+    fn resume(&mut self, now: Tick, q: &mut EventQueue) {
+        if let Some(r) = &mut self.running {
+            r.resume(now, q);
+        }
+    }
+
+    fn dirty_line(&self, _n: u32, _bytes: &mut [u8; 64]) -> Option<u64> {
+        None
+    }
+
+    fn any_line(&self, _n: u32, _bytes: &mut [u8; 64]) -> Option<LineInfo> {
+        None
+    }
+
+    fn invalidate(&mut self) {}
+
+    fn arch(&self) -> Option<Arch> {
+        match &self.running {
+            Some(r) => r.arch,
+            None => None,
+        }
+    }
+
+    fn take_arch(&mut self) -> Option<Arch> {
+        match &mut self.running {
+            Some(r) => r.arch.take(),
+            None => None,
+        }
+    }
+
+    fn give_arch(&mut self, a: Arch) {
+        if let Some(r) = &mut self.running {
+            r.arch = Some(a);
+        }
+    }
+
+    fn exit_code(&self) -> Option<u32> {
+        None
+    }
+
+    fn input(&mut self, _byte: u8) -> bool {
+        false
+    }
+}

@@ -1,0 +1,195 @@
+// A configured CPU.
+ghost use Rattle.std.specs.Prelude.{◌≡◌, ◌^◌, ◌≤◌, IsTrue, false, Some};
+ghost use Rattle.ev_queue.specs.SlotTable.{gave};
+ghost use Rattle.gm_model.specs.AtomicCpuStep.{cpu_event, cpu_done, cpu_lined};
+ghost use Rattle.gm_model.specs.Command.{drain_step, resume_step, is_resting, is_asleep, is_awake, is_drained};
+ghost use Rattle.gm_model.specs.HartLine.{is_line};
+ghost use Rattle.gm_model.specs.declared.answer.Answer.TheVariants.{Nothing as NothingAnswer};
+ghost use Rattle.gm_model.specs.declared.own.Own.TheVariants as owns;
+ghost use Rattle.gc_base.specs.declared.limits.TheConstants.{PERIOD_MAX};
+ghost use Rattle.obj_core.specs.Out.{HasRoom, extended};
+
+use crate::frame::Frame;
+use crate::octets::word;
+use crate::stage::Stage;
+use ev_queue::{EventHandle, EventQueue};
+use gc_base::Tick;
+use gc_base::limits::TOP;
+use gm_model::{Packet, Params};
+use obj_core::Outbox;
+use rv_step::Arch;
+
+/// A configured CPU. It is the active one where it has the hart.
+#[derive(Drop)]
+pub struct Running {
+    pub(crate) frame: Frame,
+    pub(crate) arch: Option<Arch>,
+}
+
+impl Running {
+    ghost use Rattle.gm_model.specs.ObjState.{AtomicCpu};
+    ghost use Rattle.obj_core.specs.Events.{with_changes};
+    ghost use Rattle.gm_model.specs.Command.{start_of};
+    ghost use Rattle.cpu_atomic.specs.Kept.{stage_of};
+    ghost use Rattle.cpu_atomic.specs.Shown.{shown, shown_frame};
+
+    // one at its start
+    pub(crate) fn start(params: &Params, period: u64, handle: EventHandle<50>) -> Running
+        requires owner { handle.owner ≡ params.now.object.0 }
+        requires slot { handle.slot ≡ 0 }
+        requires least { 1 ≤ period }
+        requires most { period ≤ PERIOD_MAX }
+        ensures { shown (Some result) ≡ start_of params.now (owns.AtomicCpu period) }
+    {
+        let frame = Frame {
+            handle,
+            object: params.object,
+            line: params.line,
+            ram: params.ram,
+            timing: false,
+            draining: true,
+            period: period as u32,
+            stage: Stage::Rest,
+            due: false,
+        };
+        Running { frame, arch: None }
+    }
+
+    // its event is served
+    pub(crate) fn event(&mut self, now: Tick, q: &mut EventQueue, out: &mut Outbox)
+        requires known { IsTrue (gave q.old.table self.old.frame.object.0 0 50) }
+        requires room { HasRoom out.old }
+        requires tick { now ≤ TOP }
+        ensures state { shown (Some self.new) ≡ (cpu_event (record (shown_frame self.old.frame self.old.arch) { due = false }) out.old.next now self.old.arch (stage_of self.old.frame.stage)).state }
+        ensures events { q.new ≡ with_changes q.old (shown (Some self.old)) (cpu_event (record (shown_frame self.old.frame self.old.arch) { due = false }) out.old.next now self.old.arch (stage_of self.old.frame.stage)).changes }
+        ensures out { out.new ≡ extended out.old (cpu_event (record (shown_frame self.old.frame self.old.arch) { due = false }) out.old.next now self.old.arch (stage_of self.old.frame.stage)).acts (cpu_event (record (shown_frame self.old.frame self.old.arch) { due = false }) out.old.next now self.old.arch (stage_of self.old.frame.stage)).entries (cpu_event (record (shown_frame self.old.frame self.old.arch) { due = false }) out.old.next now self.old.arch (stage_of self.old.frame.stage)).next }
+        ensures answer { (cpu_event (record (shown_frame self.old.frame self.old.arch) { due = false }) out.old.next now self.old.arch (stage_of self.old.frame.stage)).answer ≡ NothingAnswer }
+    {
+        self.frame.due = false;
+        if let (Some(a), Stage::Rest) = (&mut self.arch, self.frame.stage) {
+            if !a.asleep {
+                self.frame.begins(a, now, q, out);
+            }
+        }
+    }
+
+    // its packet was served, which took a latency
+    pub(crate) fn done(
+        &mut self,
+        now: Tick,
+        p: &Packet,
+        latency: u64,
+        q: &mut EventQueue,
+        out: &mut Outbox,
+    )
+        requires known { IsTrue (gave q.old.table self.old.frame.object.0 0 50) }
+        requires room { HasRoom out.old }
+        requires tick { now ≤ TOP }
+        requires latency { latency ≤ 2 ^ 32 }
+        ensures state { shown (Some self.new) ≡ (cpu_done (shown_frame self.old.frame self.old.arch) out.old.next now p.now latency self.old.arch (stage_of self.old.frame.stage)).state }
+        ensures events { q.new ≡ with_changes q.old (shown (Some self.old)) (cpu_done (shown_frame self.old.frame self.old.arch) out.old.next now p.now latency self.old.arch (stage_of self.old.frame.stage)).changes }
+        ensures out { out.new ≡ extended out.old (cpu_done (shown_frame self.old.frame self.old.arch) out.old.next now p.now latency self.old.arch (stage_of self.old.frame.stage)).acts (cpu_done (shown_frame self.old.frame self.old.arch) out.old.next now p.now latency self.old.arch (stage_of self.old.frame.stage)).entries (cpu_done (shown_frame self.old.frame self.old.arch) out.old.next now p.now latency self.old.arch (stage_of self.old.frame.stage)).next }
+        ensures answer { (cpu_done (shown_frame self.old.frame self.old.arch) out.old.next now p.now latency self.old.arch (stage_of self.old.frame.stage)).answer ≡ NothingAnswer }
+    {
+        let Some(a) = &mut self.arch else {
+            return;
+        };
+        match self.frame.stage {
+            Stage::Rest => {}
+            Stage::AwaitFetch => self.frame.fetched(a, now, latency, word(&p.bytes), q, out),
+            Stage::AwaitData {
+                word,
+                latency: before,
+            } => {
+                let at = self.frame.end(now, before + latency);
+                self.frame.accessed(a, at, p, word, q, out);
+            }
+        }
+    }
+
+    // an interrupt line has a new level
+    pub(crate) fn lined(
+        &mut self,
+        now: Tick,
+        bit: u8,
+        level: bool,
+        q: &mut EventQueue,
+        out: &mut Outbox,
+    )
+        requires known { IsTrue (gave q.old.table self.old.frame.object.0 0 50) }
+        requires room { HasRoom out.old }
+        requires tick { now ≤ TOP }
+        requires line { IsTrue (is_line bit) }
+        ensures state { shown (Some self.new) ≡ (cpu_lined (shown_frame self.old.frame self.old.arch) out.old.next now bit level self.old.arch).state }
+        ensures events { q.new ≡ with_changes q.old (shown (Some self.old)) (cpu_lined (shown_frame self.old.frame self.old.arch) out.old.next now bit level self.old.arch).changes }
+        ensures out { out.new ≡ extended out.old (cpu_lined (shown_frame self.old.frame self.old.arch) out.old.next now bit level self.old.arch).acts (cpu_lined (shown_frame self.old.frame self.old.arch) out.old.next now bit level self.old.arch).entries (cpu_lined (shown_frame self.old.frame self.old.arch) out.old.next now bit level self.old.arch).next }
+        ensures answer { (cpu_lined (shown_frame self.old.frame self.old.arch) out.old.next now bit level self.old.arch).answer ≡ NothingAnswer }
+    {
+        if let Some(a) = &mut self.arch {
+            self.frame.lined(a, now, bit, level, q, out);
+        }
+    }
+
+    fn is_resting(&self) -> bool
+        ensures { result ≡ is_resting (stage_of self.now.frame.stage) }
+    {
+        match self.frame.stage {
+            Stage::Rest => true,
+            Stage::AwaitFetch => false,
+            Stage::AwaitData { .. } => false,
+        }
+    }
+
+    fn is_asleep(&self) -> bool
+        ensures { result ≡ is_asleep self.now.arch }
+    {
+        match &self.arch {
+            Some(a) => a.asleep,
+            None => false,
+        }
+    }
+
+    fn is_awake(&self) -> bool
+        ensures { result ≡ is_awake self.now.arch }
+    {
+        match &self.arch {
+            Some(a) => !a.asleep,
+            None => false,
+        }
+    }
+
+    // whether it stands between two instructions, and no event of its is pending
+    pub(crate) fn drained(&self) -> bool
+        ensures { result ≡ is_drained (shown (Some self.now)) }
+    {
+        self.is_resting() && !self.frame.due
+    }
+
+    // begins nothing new
+    pub(crate) fn drain(&mut self, q: &mut EventQueue)
+        requires known { IsTrue (gave q.old.table self.old.frame.object.0 0 50) }
+        ensures state { shown (Some self.new) ≡ (drain_step (shown (Some self.old))).state }
+        ensures events { q.new ≡ with_changes q.old (shown (Some self.old)) (drain_step (shown (Some self.old))).changes }
+    {
+        self.frame.draining = true;
+        if self.is_resting() || self.is_asleep() {
+            q.deschedule(&self.frame.handle);
+            self.frame.due = false;
+        }
+    }
+
+    // goes on
+    pub(crate) fn resume(&mut self, now: Tick, q: &mut EventQueue)
+        requires known { IsTrue (gave q.old.table self.old.frame.object.0 0 50) }
+        requires tick { now ≤ TOP }
+        ensures state { shown (Some self.new) ≡ (resume_step (shown (Some self.old)) now).state }
+        ensures events { q.new ≡ with_changes q.old (shown (Some self.old)) (resume_step (shown (Some self.old)) now).changes }
+    {
+        self.frame.draining = false;
+        if self.is_awake() {
+            let at = self.frame.next_period(now);
+            q.reschedule(&self.frame.handle, at);
+            self.frame.due = true;
+        }
+    }
+}

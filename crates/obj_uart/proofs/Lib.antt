@@ -1,0 +1,2 @@
+pub mod NotedBytes
+pub mod ShownKinds

@@ -1,0 +1,4 @@
+pub mod Own
+pub mod Shown
+pub mod Reply
+pub mod Registers

@@ -1,0 +1,8 @@
+-- What is always so of a configured device. This project's own rules.
+use Rattle.std.specs.Prelude.{◌≡◌, ℕ}
+use Rattle.ev_queue.specs.Handle.{Handle}
+
+-- the handle is of this slot of the object
+pub record IsSlotOf (object slot : ℕ) (h : Handle) : Type 0 where
+  pub owner : h.owner ≡ object
+  pub number : h.slot ≡ slot
