@@ -13,3 +13,6 @@ mod running;
 mod stage;
 
 pub use atomic_cpu::AtomicCpu;
+
+#[cfg(test)]
+mod tests;

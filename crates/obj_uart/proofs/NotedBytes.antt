@@ -1,6 +1,6 @@
 -- The eight bytes that are noted of a packet.
 use Rattle.std.proofs.lemmas.List.{append-nil}
-use Rattle.std.proofs.Common.{◌≡◌, ℕ, zero, suc, ◌+◌, ◌≤◌, ◌++◌, List, [], ◌∷◌, length, take, drop, replicate, ap, ◌∙◌, sym, refl, arith}
+use Rattle.std.proofs.Common.{◌≡◌, ℕ, zero, suc, ◌≤◌, ◌++◌, List, [], ◌∷◌, length, take, drop, replicate, ap, ◌∙◌, sym, arith}
 use Rattle.std.proofs.lemmas.List.{take-replicate, take-append-le, take-take, length-take-le}
 
 -- so many bytes in front of zeros, cut

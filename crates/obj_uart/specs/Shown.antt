@@ -1,5 +1,5 @@
 -- The states that the devices show. This project's own rules.
-use Rattle.std.specs.Prelude.{ℕ, false, Option, Some, None}
+use Rattle.std.specs.Prelude.{false, Option, Some, None}
 use Rattle.gm_model.specs.Flow.{quiet_flow}
 use Rattle.gm_model.specs.ObjState.{ObjState, Blank, Server as ServerPart, Device, Exit, Uart, UartState}
 use Rattle.gm_model.specs.declared.kind.Kind.TheVariants as kinds

@@ -12,3 +12,6 @@ mod uart;
 
 pub use exit_dev::ExitDev;
 pub use uart::Uart;
+
+#[cfg(test)]
+mod tests;
