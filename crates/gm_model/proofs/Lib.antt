@@ -6,3 +6,7 @@ pub mod ReplaySteps
 pub mod ReplayServes
 pub mod ReplayRuns
 pub mod RunEnds
+pub mod SoundParts
+pub mod SoundEvents
+pub mod ConsoleBytes
+pub mod Started

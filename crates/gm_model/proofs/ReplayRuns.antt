@@ -10,7 +10,7 @@ use Rattle.rv_step.specs.Demand.{need}
 use Rattle.rv_step.specs.Retire.{finish}
 use Rattle.rv_step.specs.Trap.{enter_trap}
 use Rattle.gm_model.specs.Router.{Route, destination}
-use Rattle.gm_model.specs.ObjState.{Common, Memory, Exit, ObjState, Blank, AtomicCpu, Server, CpuStage, Rest, AwaitFetch, AwaitData}
+use Rattle.gm_model.specs.ObjState.{Common, Memory, Exit, CpuStage, Rest, AwaitFetch, AwaitData}
 use Rattle.gm_model.specs.AtomicCpuStep.{cpu_ends, cpu_fetched, cpu_accessed, fetch_request, load_request, store_request}
 use Rattle.gm_model.specs.ObjectStep.{object_step, atomic_step}
 use Rattle.gm_model.specs.Sys.{Sys, active_cpu}
@@ -23,9 +23,9 @@ use Rattle.gm_model.specs.Counts.{count_event}
 use Rattle.gm_model.specs.Flow.{quiet_flow}
 use Rattle.gm_model.specs.Command.{with_bytes_at}
 use Rattle.gm_model.specs.Start.{start_state, resumed_state}
-use Rattle.gm_model.specs.declared.config.Config.{Config}
+use Rattle.cfg_tree.specs.declared.config.Config.{Config}
 use Rattle.gm_model.specs.Fire.{Ran, fire, timed_run, event_delivered, fire_event, fire_due, fire_first, taken_out}
-use Rattle.gm_model.specs.AtomicMachine.{RunsAreReplayed, IsRunReplayed, AtomicParts, atomic_routes, IsInStep, resting, fetching, fetched, loading, storing, loaded, stored, IsAtomicMachine}
+use Rattle.gm_model.specs.AtomicMachine.{RunsAreReplayed, IsRunReplayed, AtomicParts, atomic_routes, stage_of, left_at, deliveries_left, IsInStep, resting, fetching, fetched, loading, storing, loaded, stored, IsAtomicMachine}
 use Rattle.gm_model.specs.declared.act.Act.TheVariants as acts
 use Rattle.gm_model.specs.declared.entry.Entry.{Entry}
 use Rattle.gm_model.specs.declared.entry.Entry.TheVariants as entries
@@ -36,26 +36,7 @@ use Rattle.gm_model.proofs.ReplayLemmas.{replay-append}
 use Rattle.gm_model.proofs.ReplaySteps.{Kept, waiting, stepped, cpu_at, no_entry}
 use Rattle.gm_model.proofs.ReplayServes.{first_kept, wake_kept, parts_are}
 
--- the stage of the first CPU
-abbrev stage_of : List ObjState → CpuStage
-stage_of [] = Rest
-stage_of (AtomicCpu c ∷ os) = c.stage
-stage_of (Blank k ∷ os) = stage_of os
-stage_of (Server v ∷ os) = stage_of os
-
--- how many deliveries are left at most
-abbrev left_at : CpuStage → List Item → ℕ
-left_at stage [] = 0
-left_at Rest (i ∷ is) = 4
-left_at AwaitFetch (Sent j a ∷ is) = 4
-left_at AwaitFetch (Done j p latency ∷ is) = 3
-left_at (AwaitData w before) (Sent j a ∷ is) = 2
-left_at (AwaitData w before) (Done j p latency ∷ is) = 1
-
-abbrev left : Delivery → ℕ
-left d = left_at (stage_of d.sys.objects) d.items
-
-left_most : (stage : CpuStage) (items : List Item) → left_at stage items ≤ 4
+pub left_most : (stage : CpuStage) (items : List Item) → left_at stage items ≤ 4
 left_most stage [] = omega arith
 left_most Rest (i ∷ is) = omega arith
 left_most AwaitFetch (Sent j a ∷ is) = omega arith
@@ -63,7 +44,7 @@ left_most AwaitFetch (Done j p latency ∷ is) = omega arith
 left_most (AwaitData w before) (Sent j a ∷ is) = omega arith
 left_most (AwaitData w before) (Done j p latency ∷ is) = omega arith
 
-none_left : (stage : CpuStage) (items : List Item) → left_at stage items ≤ 0 → items ≡ []
+pub none_left : (stage : CpuStage) (items : List Item) → left_at stage items ≤ 0 → items ≡ []
 none_left stage [] h = refl
 none_left Rest (i ∷ is) h = absurd (omega arith)
 none_left AwaitFetch (Sent j a ∷ is) h = absurd (omega arith)
@@ -73,18 +54,18 @@ none_left (AwaitData w before) (Done j p latency ∷ is) h = absurd (omega arith
 
 module _ (s : Sys) (x : AtomicParts) (es : List Entry) where
   ends_left : (stage : CpuStage) (a : Arch) (next at : ℕ) (e : Entry) (b : Bool)
-      → left (stepped s x stage es (cpu_ends (cpu_at x stage x.cpu.due) a next at e b)) ≤ 0
+      → deliveries_left (stepped s x stage es (cpu_ends (cpu_at x stage x.cpu.due) a next at e b)) ≤ 0
   ends_left stage a next at e true = omega arith
   ends_left stage a next at e false = omega arith
 
-  fetched_left : (latency w : ℕ) (d : Demand) → left (stepped s x AwaitFetch es (cpu_fetched (cpu_at x AwaitFetch x.cpu.due) x.arch s.next s.tick latency w d)) ≤ 2
+  fetched_left : (latency w : ℕ) (d : Demand) → deliveries_left (stepped s x AwaitFetch es (cpu_fetched (cpu_at x AwaitFetch x.cpu.due) x.arch s.next s.tick latency w d)) ≤ 2
   fetched_left latency w demand.Nothing = omega (arith, ends_left AwaitFetch (finish x.arch w 0) s.next (s.tick + x.cpu.period + latency) (entries.Retired x.arch.pc w) (finish x.arch w 0).asleep)
   fetched_left latency w demand.Sleep = omega (arith, ends_left AwaitFetch (finish x.arch w 0) s.next (s.tick + x.cpu.period + latency) (entries.Retired x.arch.pc w) (finish x.arch w 0).asleep)
   fetched_left latency w (demand.Load address count) = omega arith
   fetched_left latency w (demand.Store address count v) = omega arith
   fetched_left latency w (demand.Trap cause tval) = omega (arith, ends_left AwaitFetch (enter_trap x.arch cause tval) s.next (s.tick + x.cpu.period + latency) (entries.Trapped cause tval) (enter_trap x.arch cause tval).asleep)
 
-  accessed_left : (w before at : ℕ) (p : Packet) (d : Demand) (f : Bool) → left (stepped s x (AwaitData w before) es (cpu_accessed (cpu_at x (AwaitData w before) x.cpu.due) x.arch s.next at p w d f)) ≤ 0
+  accessed_left : (w before at : ℕ) (p : Packet) (d : Demand) (f : Bool) → deliveries_left (stepped s x (AwaitData w before) es (cpu_accessed (cpu_at x (AwaitData w before) x.cpu.due) x.arch s.next at p w d f)) ≤ 0
   accessed_left w before at p (demand.Load address count) false =
       ends_left (AwaitData w before) (finish x.arch w (number (take count p.bytes))) s.next at (entries.Retired x.arch.pc w) (finish x.arch w (number (take count p.bytes))).asleep
   accessed_left w before at p (demand.Load address count) true =
@@ -99,7 +80,7 @@ module _ (s : Sys) (x : AtomicParts) (es : List Entry) where
 
   -- a packet that is passed on leaves its response alone
   passed_left : (stage : CpuStage) (j : ℕ) (p : Packet) (b c e : Bool)
-      → left (deliver_atomic (waiting s x stage [] es) j p (cond {A = Option ℕ} b (Some 1) (cond {A = Option ℕ} c (Some 2) (cond {A = Option ℕ} e (Some 3) None)))) ≤ left_at stage (Done j p 0 ∷ [])
+      → deliveries_left (deliver_atomic (waiting s x stage [] es) j p (cond {A = Option ℕ} b (Some 1) (cond {A = Option ℕ} c (Some 2) (cond {A = Option ℕ} e (Some 3) None)))) ≤ left_at stage (Done j p 0 ∷ [])
   unfolding atomic_step
   passed_left Rest j p true c e = omega arith
   passed_left Rest j p false true e = omega arith
@@ -116,7 +97,7 @@ module _ (s : Sys) (x : AtomicParts) (es : List Entry) where
 
   -- each delivery leaves fewer
   first_left : (stage : CpuStage) (items : List Item) → IsInStep (atomic_routes x.cpu.common.ram) x.cpu.common.ram x.arch stage items
-      → left (deliver_first (waiting s x stage items es) items) ≤ left_at stage items - 1
+      → deliveries_left (deliver_first (waiting s x stage items es) items) ≤ left_at stage items - 1
   unfolding object_step
   first_left Rest [] resting = omega arith
   first_left Rest (_ ∷ _) h = elim h [ ]
@@ -158,9 +139,9 @@ kept_kept d e f r k l = record {
   machine = l.machine;
 }
 
-first_falls : (d : Delivery) → IsAtomicMachine d.sys d.items → left (deliver_first d d.items) ≤ left d - 1
+pub first_falls : (d : Delivery) → IsAtomicMachine d.sys d.items → deliveries_left (deliver_first d d.items) ≤ deliveries_left d - 1
 first_falls d h =
-    let P : Sys → Type 0 = λ s. left (deliver_first (record { sys = s; items = d.items; entries = d.entries }) d.items) ≤ left_at (stage_of s.objects) d.items - 1 in
+    let P : Sys → Type 0 = λ s. deliveries_left (deliver_first (record { sys = s; items = d.items; entries = d.entries }) d.items) ≤ left_at (stage_of s.objects) d.items - 1 in
     subst P (parts_are d.sys d.items h) (first_left d.sys h.parts d.entries h.parts.cpu.stage d.items h.step)
 
 -- nothing is left to deliver
@@ -168,7 +149,7 @@ done_kept : (d : Delivery) → IsAtomicMachine d.sys d.items → Kept d d
 done_kept d h = record { replayed = record { noted = []; entries = sym (append-nil d.entries); replays = no_entry _ _ _ refl }; machine = h }
 
 -- with enough deliveries all is delivered, and what is noted is replayed
-pub deliver_kept : (n : ℕ) (d : Delivery) → IsAtomicMachine d.sys d.items → left d ≤ n → Kept d (deliver n d) × ((deliver n d).items ≡ [])
+pub deliver_kept : (n : ℕ) (d : Delivery) → IsAtomicMachine d.sys d.items → deliveries_left d ≤ n → Kept d (deliver n d) × ((deliver n d).items ≡ [])
 unfolding deliver
 deliver_kept zero d h l = (done_kept d h, none_left (stage_of d.sys.objects) d.items l)
 deliver_kept (suc n) d h l =
@@ -179,7 +160,7 @@ deliver_kept (suc n) d h l =
     (kept_kept d e (deliver n e) (router_first d d.items) k rest.0, rest.1)
 
 -- a machine whose objects and routes are another's
-same_machine : (s t : Sys) (items : List Item) → t.objects ≡ s.objects → t.router ≡ s.router → IsAtomicMachine s items → IsAtomicMachine t items
+pub same_machine : (s t : Sys) (items : List Item) → t.objects ≡ s.objects → t.router ≡ s.router → IsAtomicMachine s items → IsAtomicMachine t items
 same_machine s t items o r h = record {
   parts = h.parts;
   objects = o ∙ h.objects;

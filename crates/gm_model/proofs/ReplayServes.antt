@@ -68,7 +68,7 @@ exit_answers s x stage es p r = record {
 }
 
 -- and once RAM did
-abbrev memory_answers : Sys → AtomicParts → CpuStage → List Entry → Packet → Served → Delivery
+abbrev pub memory_answers : Sys → AtomicParts → CpuStage → List Entry → Packet → Served → Delivery
 memory_answers s x stage es p r = record {
   sys = with_object (atomic s (with_stage x stage x.cpu.due)) 2 (Server (record x.memory { device = r.device; flow = record x.memory.flow { items = [] } })) r.changes;
   items = Done 0 r.response (s.router.latency + x.memory.latency) ∷ [];
@@ -469,7 +469,7 @@ first_kept d h =
     subst P (parts_are d.sys d.items h) (item_kept d.sys h.parts d.entries h.size h.parts.cpu.stage d.items h.step)
 
 -- where nothing is to be delivered, the CPU rests
-rests : (rs : List Route) (ram : ℕ) (a : Arch) (stage : CpuStage) (items : List Item) → IsInStep rs ram a stage items → items ≡ [] → stage ≡ Rest
+pub rests : (rs : List Route) (ram : ℕ) (a : Arch) (stage : CpuStage) (items : List Item) → IsInStep rs ram a stage items → items ≡ [] → stage ≡ Rest
 rests rs ram a Rest [] resting e = refl
 rests rs ram a Rest (_ ∷ _) h e = elim h [ ]
 rests rs ram a AwaitFetch _ (fetching n port awake within) e = cc

@@ -1,6 +1,7 @@
 -- What a part may be configured with, and what may come to it. This project's own rules.
 use Rattle.std.specs.Prelude.{◌≡◌, ℕ, ◌%◌, ◌^◌, ◌≤◌, ◌==◌, ◌||◌, IsTrue}
 use Rattle.gc_base.specs.declared.limits.TheConstants.{RAM_MIN, RAM_MAX, PAGE, LATENCY_MAX, PERIOD_MAX, SETS_MAX, WAYS_MAX, MISS_REGISTERS_MAX, TARGETS_MAX, WRITE_QUEUE_MAX, MEMORY_QUEUE_MAX, DMA_WINDOW_MAX}
+use Rattle.cfg_tree.specs.Valid.{IsUpTo}
 use Rattle.gm_model.specs.HartLine.{is_line}
 use Rattle.gm_model.specs.ObjState.{ObjState, Blank, AtomicCpu, Server}
 use Rattle.gm_model.specs.declared.own.Own.{Own}
@@ -9,10 +10,6 @@ use Rattle.gm_model.specs.declared.packet.Packet.{Packet}
 use Rattle.gm_model.specs.declared.params.Params.{Params}
 use Rattle.gm_model.specs.declared.wake.Wake.{Wake}
 use Rattle.gm_model.specs.declared.wake.Wake.TheVariants as wakes
-
--- a number from 1 to its limit
-abbrev pub IsUpTo : ℕ → ℕ → Type 0
-IsUpTo most n = (1 ≤ n) × (n ≤ most)
 
 -- the values of a kind's keys are within their limits
 abbrev pub AreAllowed : Own → Type 0

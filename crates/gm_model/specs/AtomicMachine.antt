@@ -9,13 +9,13 @@ use Rattle.rv_step.specs.FlatMem.{ram_base}
 use Rattle.rv_step.specs.Flat.{uart_base, exit_base}
 use Rattle.gm_model.specs.Platform.{is_in_ram, range_of}
 use Rattle.gm_model.specs.Router.{Route, is_unmapped}
-use Rattle.gm_model.specs.ObjState.{ObjState, AtomicCpu, Server, AtomicCpuState, ServerState, CpuStage, Rest, AwaitFetch, AwaitData, Memory, Uart, Exit, UartState}
+use Rattle.gm_model.specs.ObjState.{ObjState, Blank, AtomicCpu, Server, AtomicCpuState, ServerState, CpuStage, Rest, AwaitFetch, AwaitData, Memory, Uart, Exit, UartState}
 use Rattle.gm_model.specs.AtomicCpuStep.{fetch_request, load_request, store_request}
 use Rattle.gm_model.specs.Sys.{Sys}
 use Rattle.gm_model.specs.Deliver.{Item, Sent, Done, Delivery, handle, deliver_wake}
 use Rattle.gm_model.specs.Fire.{Ran, fire, timed_run, event_delivered}
 use Rattle.gm_model.specs.Start.{start_state, resumed_state}
-use Rattle.gm_model.specs.declared.config.Config.{Config}
+use Rattle.cfg_tree.specs.declared.config.Config.{Config}
 use Rattle.gm_model.specs.View.{program_state}
 use Rattle.gm_model.specs.Replay.{replay}
 use Rattle.gm_model.specs.declared.act.Act.TheVariants as acts
@@ -69,6 +69,26 @@ atomic_routes ram =
     ∷ record { range = range_of ram_base ram; object = 2 }
     ∷ record { range = range_of uart_base 0x1000; object = 3 }
     ∷ []
+
+-- the stage of the first CPU
+abbrev pub stage_of : List ObjState → CpuStage
+stage_of [] = Rest
+stage_of (AtomicCpu c ∷ os) = c.stage
+stage_of (Blank k ∷ os) = stage_of os
+stage_of (Server v ∷ os) = stage_of os
+
+-- how many deliveries are left at most, by the CPU's stage
+abbrev pub left_at : CpuStage → List Item → ℕ
+left_at stage [] = 0
+left_at Rest (i ∷ is) = 4
+left_at AwaitFetch (Sent j a ∷ is) = 4
+left_at AwaitFetch (Done j p latency ∷ is) = 3
+left_at (AwaitData w before) (Sent j a ∷ is) = 2
+left_at (AwaitData w before) (Done j p latency ∷ is) = 1
+
+-- how many deliveries are left at most
+abbrev pub deliveries_left : Delivery → ℕ
+deliveries_left d = left_at (stage_of d.sys.objects) d.items
 
 -- the machine is one in atomic mode, with these items still to be delivered
 pub record IsAtomicMachine (s : Sys) (items : List Item) : Type 0 where

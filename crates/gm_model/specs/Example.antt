@@ -8,7 +8,7 @@ use Rattle.gm_model.specs.Sys.{Sys}
 use Rattle.gm_model.specs.Fire.{fire_first}
 use Rattle.gm_model.specs.Run.{RunEnd, run_to, retired_in, console_of}
 use Rattle.gm_model.specs.Start.{start_state, resumed_state, ram_with_front}
-use Rattle.gm_model.specs.declared.config.Config.{Config}
+use Rattle.cfg_tree.specs.declared.config.Config.{Config}
 use Rattle.gm_model.specs.declared.goal.Reason.{Reason}
 use Rattle.gm_model.specs.declared.goal.Reason.TheVariants as reasons
 use Rattle.gm_model.specs.declared.goal.Until.TheVariants as untils

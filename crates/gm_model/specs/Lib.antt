@@ -24,3 +24,4 @@ pub mod Example
 pub mod Allowed
 pub mod Laws
 pub mod AtomicMachine
+pub mod Sound

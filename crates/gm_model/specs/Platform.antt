@@ -3,7 +3,7 @@
 use Rattle.std.specs.Prelude.{ℕ, ◌+◌, ◌-◌, nat_le, ◌&&◌, Bool, List, [], ◌∷◌, codes, Option, Some, None}
 use Rattle.rv_step.specs.FlatMem.{ram_base}
 use Rattle.rv_step.specs.Flat.{uart_base, exit_base}
-use Rattle.gm_model.specs.declared.config.Config.{Config}
+use Rattle.cfg_tree.specs.declared.config.Config.{Config}
 use Rattle.gm_model.specs.declared.kind.Kind.{Kind}
 use Rattle.gm_model.specs.declared.kind.Kind.TheVariants as kinds
 

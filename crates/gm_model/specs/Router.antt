@@ -2,7 +2,7 @@
 -- This project's own rule. Crossbars that are objects of their own will take its place.
 use Rattle.std.specs.Prelude.{ℕ, ◌+◌, Bool, if◌then◌else◌, List, [], ◌∷◌, ◌++◌, Option, Some, None, is_none}
 use Rattle.gm_model.specs.Platform.{Range, is_within, Part, platform}
-use Rattle.gm_model.specs.declared.config.Config.{Config}
+use Rattle.cfg_tree.specs.declared.config.Config.{Config}
 
 -- the addresses of a range go to an object
 pub record Route : Type 0 where

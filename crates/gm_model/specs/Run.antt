@@ -71,23 +71,30 @@ is_late (untils.Tick t) tick = nat_lt t tick
 is_late (untils.Insts n) tick = false
 is_late untils.End tick = false
 
--- why the next event isn't served, if it isn't, once n events were
-abbrev pub due_reason : Goal → ℕ → Option Due → Option Reason
-due_reason g n None = Some reasons.Idle
-due_reason g n (Some d) =
-    if nat_lt last_tick d.tick then Some reasons.TickLimit
-    else if is_late g.until d.tick then Some reasons.Tick
+-- why an event of a tick isn't served, if it isn't, once n events were
+abbrev pub late_reason : Goal → ℕ → ℕ → Option Reason
+late_reason g n tick =
+    if nat_lt last_tick tick then Some reasons.TickLimit
+    else if is_late g.until tick then Some reasons.Tick
     else if nat_le g.budget n then Some reasons.Limit
     else None
 
--- why a run ends after n events, if it does: the first reason that holds
-abbrev pub exit_reason : Goal → ℕ → Ran → Option ℕ → Option Reason
-exit_reason g n r (Some code) = Some (reasons.Exit code)
-exit_reason g n r None =
-    if has_retired g.until (retired_in r.entries) then Some reasons.Insts else due_reason g n (first r.sys.pending)
+-- why the next event isn't served, if it isn't
+abbrev pub due_reason : Goal → ℕ → Option Due → Option Reason
+due_reason g n None = Some reasons.Idle
+due_reason g n (Some d) = late_reason g n d.tick
 
+-- why a run ends after n events in which so many instructions retired, if it does: the first reason that holds
+abbrev pub exit_reason : Goal → ℕ → ℕ → Sys → Option ℕ → Option Reason
+exit_reason g n insts s (Some code) = Some (reasons.Exit code)
+exit_reason g n insts s None = if has_retired g.until insts then Some reasons.Insts else due_reason g n (first s.pending)
+
+abbrev pub reason_for : Goal → ℕ → ℕ → Sys → Option Reason
+reason_for g n insts s = exit_reason g n insts s (exit_of s.objects)
+
+-- why the run r of n events ends, if it does
 abbrev pub reason_at : Goal → ℕ → Ran → Option Reason
-reason_at g n r = exit_reason g n r (exit_of r.sys.objects)
+reason_at g n r = reason_for g n (retired_in r.entries) r.sys
 
 -- a run that has ended: where it stands and what it noted, after how many events, and why
 pub record RunEnd : Type 0 where

@@ -2,6 +2,7 @@
 use Rattle.std.specs.Prelude.{ℕ, ◌+◌, ◌-◌, Bool, true, false, List, [], ◌∷◌, ◌++◌, length, map, replicate, Option, Some, None}
 use Rattle.ev_queue.specs.declared.due.Due.{Due}
 use Rattle.rv_step.specs.Arch.{reset}
+use Rattle.rv_step.specs.FlatMem.{ram_base}
 use Rattle.gm_model.specs.Platform.{Part, platform}
 use Rattle.gm_model.specs.Router.{router_of}
 use Rattle.gm_model.specs.Counts.{no_counts}
@@ -9,7 +10,7 @@ use Rattle.gm_model.specs.ObjState.{ObjState, Blank, object_of}
 use Rattle.gm_model.specs.Stepped.{Commanded, changed}
 use Rattle.gm_model.specs.Command.{start_of, with_own_bytes, with_arch, drain_step, resume_step}
 use Rattle.gm_model.specs.Sys.{Sys}
-use Rattle.gm_model.specs.declared.config.Config.{Config}
+use Rattle.cfg_tree.specs.declared.config.Config.{Config}
 use Rattle.gm_model.specs.declared.kind.Kind.{Kind}
 use Rattle.gm_model.specs.declared.kind.Kind.TheVariants as kinds
 use Rattle.gm_model.specs.declared.own.Own.{Own}
@@ -91,3 +92,7 @@ resumed_state s = record (commanded (λ o. resume_step o s.tick) s) { draining =
 -- packets, counts and trace begin anew
 abbrev pub rebase : Sys → Sys
 rebase s = record s { next = 0; counts = no_counts (length s.objects); rebased = s.tick; trace = false }
+
+-- RAM's own bytes are others from an address on
+abbrev pub with_raw : ℕ → List ℕ → Sys → Sys
+with_raw address bytes s = record s { objects = map (λ o. with_own_bytes (address - ram_base) bytes o) s.objects }

@@ -6,6 +6,7 @@ use Rattle.rv_step.specs.FlatMem.{ram_put, ram_byte}
 use Rattle.gm_model.specs.Packet.{carried_bytes, carried_number, is_response, response_number}
 use Rattle.gm_model.specs.Flow.{Queued}
 use Rattle.gm_model.specs.ObjState.{ObjState, Blank, AtomicCpu, Server, ServerState, CpuStage, Rest, AwaitFetch, AwaitData, Device, Memory, Uart, Exit}
+use Rattle.gm_model.specs.Command.{own_bytes}
 use Rattle.gm_model.specs.Router.{Route, is_unmapped}
 use Rattle.gm_model.specs.Sys.{Sys, object_at, active_cpu}
 use Rattle.gm_model.specs.Deliver.{Item, Sent, Done}
@@ -52,6 +53,11 @@ view_ram s = parts_view s.objects
 -- the byte that a load would see at an address, if it is in RAM
 abbrev pub view_byte : Sys → ℕ → Option ℕ
 view_byte s address = ram_byte (view_ram s) address
+
+-- the bytes that the first part keeps which keeps any: RAM's own
+abbrev pub own_ram : List ObjState → List ℕ
+own_ram [] = []
+own_ram (o ∷ os) = elim (own_bytes o) [ Some m ↦ m | None ↦ own_ram os ]
 
 -- the packet that the CPU i awaits, as it is now: passed on, or served
 abbrev pub awaited_packet : ℕ → List Item → Option Packet

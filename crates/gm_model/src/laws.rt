@@ -1,6 +1,7 @@
 // The laws of the model, each as the contract of a function that does nothing.
 ghost use Rattle.gm_model.specs.Laws.{ChangesOwnEventsOnly, KeepsOthersEvents, KeepsPart, StepsAreSmall, SleepersStay, TellsDueEvents};
 ghost use Rattle.gm_model.specs.AtomicMachine.{StepsAreReplayed, RunsAreReplayed};
+ghost use Rattle.gm_model.specs.Sound.{StaysSound, StartsSound};
 ghost use Rattle.gm_model.specs.Run.{RunsEnd};
 ghost use Rattle.gm_model.specs.Example.{RunsStoreAndExit};
 
@@ -39,6 +40,17 @@ pub fn steps_are_replayed()
 /// From the start on whole events are replayed, whichever pending one is served at whatever tick, and so are whole runs.
 pub fn runs_are_replayed()
     ensures { RunsAreReplayed }
+{}
+
+/// What makes each wake allowed holds of a machine at its start, once bytes are put into RAM, and once it is resumed.
+pub fn machines_start_sound()
+    ensures { StartsSound }
+{}
+
+/// What makes each wake allowed still holds after each event, whichever pending event is served at whatever tick; and an
+/// event notes little.
+pub fn machines_stay_sound()
+    ensures { StaysSound }
 {}
 
 /// A run to a goal ends after the least number of events for which there is a reason, and with the first that holds.

@@ -9,7 +9,6 @@
 mod act;
 mod answer;
 mod cmd;
-mod config;
 mod entry;
 mod goal;
 mod kind;
@@ -17,20 +16,22 @@ mod laws;
 mod own;
 mod packet;
 mod params;
+pub mod platform;
 mod port_use;
 mod wake;
 mod way;
 
 pub use act::Act;
 pub use answer::Answer;
+pub use cfg_tree::{CacheConfig, Caches, Config, DmaConfig};
 pub use cmd::Cmd;
-pub use config::{CacheConfig, Caches, Config, DmaConfig};
 pub use entry::Entry;
 pub use goal::{Goal, Reason, Until};
 pub use kind::Kind;
 pub use laws::{
-    changes_own_events_only, keeps_part, runs_are_replayed, runs_end, runs_store_and_exit,
-    sleepers_stay, steps_are_replayed, steps_are_small, tells_due_events,
+    changes_own_events_only, keeps_part, machines_start_sound, machines_stay_sound,
+    runs_are_replayed, runs_end, runs_store_and_exit, sleepers_stay, steps_are_replayed,
+    steps_are_small, tells_due_events,
 };
 pub use own::Own;
 pub use packet::Packet;
