@@ -1,4 +1,6 @@
-// The atomic CPU.
+// The atomic CPU: a hart that does one whole instruction at each of its events, with its accesses passed at once.
+// What an instruction does is the RISC-V manuals' (crate rv_step). When the next one comes is this project's own rule.
+// Not modelled: time inside an instruction, offers that may be refused, and more than one hart.
 ghost use Rattle.std.specs.Prelude.{◌≡◌};
 ghost use Rattle.gm_model.specs.declared.kind.Kind.TheVariants as kinds;
 
@@ -20,6 +22,8 @@ impl AtomicCpu {
     ghost use Rattle.gm_model.specs.ObjState.{Blank};
     ghost use Rattle.cpu_atomic.specs.Shown.{shown};
 
+    // Set-up.
+
     /// One that isn't configured.
     pub fn blank() -> AtomicCpu
         ensures { shown result.running ≡ Blank kinds.AtomicCpu }
@@ -37,6 +41,8 @@ impl SimObject for AtomicCpu {
         Kind::AtomicCpu
     }
 
+    // Set-up.
+
     fn configure(
         &mut self,
         _alloc: Global,
@@ -52,17 +58,19 @@ impl SimObject for AtomicCpu {
         Ok(())
     }
 
+    // Requests, responses and own events.
+
     #[tactic(auto, unfolding(gm_model::specs::ObjectStep::object_step))]
     fn wake(&mut self, w: Wake, now: Tick, q: &mut EventQueue, out: &mut Outbox) -> Answer {
         if let Some(r) = &mut self.running {
-            match w {
+            match &w {
                 Wake::Event { slot } => {
                     if slot.0 == 0 {
                         r.event(now, q, out);
                     }
                 }
-                Wake::AtomicDone { pkt, latency } => r.done(now, &pkt, latency, q, out),
-                Wake::Line { bit, level } => r.lined(now, bit, level, q, out),
+                Wake::AtomicDone { pkt, latency } => r.done(now, pkt, *latency, q, out),
+                Wake::Line { bit, level } => r.lined(now, *bit, *level, q, out),
                 Wake::Offer { .. } => {}
                 Wake::Taken { .. } => {}
                 Wake::Refused { .. } => {}
@@ -71,6 +79,8 @@ impl SimObject for AtomicCpu {
         }
         Answer::Nothing
     }
+
+    // Atomic access: it serves nobody.
 
     #[tactic(auto, unfolding(gm_model::specs::ObjectStep::atomic_step))]
     fn atomic(
@@ -82,6 +92,8 @@ impl SimObject for AtomicCpu {
     ) -> Way {
         Way::Done { latency: 0 }
     }
+
+    // Functional access and own bytes: it has none.
 
     #[tactic(auto, unfolding(gm_model::specs::ObjectStep::functional_step))]
     fn functional(&self, _p: &mut Packet) -> Way {
@@ -95,6 +107,8 @@ impl SimObject for AtomicCpu {
     fn put_own_bytes(&mut self, _at: u64, _from: &[u8]) -> bool {
         false
     }
+
+    // Mode, drain and resume.
 
     fn set_mode(&mut self, timing: bool) {
         if let Some(r) = &mut self.running {
@@ -121,6 +135,8 @@ impl SimObject for AtomicCpu {
         }
     }
 
+    // Lines: it has none.
+
     fn dirty_line(&self, _n: u32, _bytes: &mut [u8; 64]) -> Option<u64> {
         None
     }
@@ -130,6 +146,8 @@ impl SimObject for AtomicCpu {
     }
 
     fn invalidate(&mut self) {}
+
+    // The hart.
 
     fn arch(&self) -> Option<Arch> {
         match &self.running {
@@ -150,6 +168,8 @@ impl SimObject for AtomicCpu {
             r.arch = Some(a);
         }
     }
+
+    // Exit and input: other devices have them.
 
     fn exit_code(&self) -> Option<u32> {
         None

@@ -1,6 +1,7 @@
-// A configured CPU but for its hart.
-ghost use Rattle.std.specs.Prelude.{◌≡◌, ◌+◌, ◌^◌, ◌<◌, ◌≤◌, ◌∷◌, [], ◌++◌, IsTrue, Some, take};
+// A CPU that is configured, but for its hart: when its events come, and what an instruction does in turn.
+ghost use Rattle.std.specs.Prelude.{◌≡◌, ◌+◌, ◌^◌, ◌<◌, ◌≤◌, ◌∷◌, [], ◌++◌, IsTrue, true, None, Some, take};
 ghost use Rattle.rv_step.specs.Bytes.{number as number_of};
+ghost use Rattle.ev_queue.specs.PendingList.{event, rescheduled};
 ghost use Rattle.ev_queue.specs.SlotTable.{gave};
 ghost use Rattle.rv_step.specs.Demand.{need as need_of};
 ghost use Rattle.rv_step.specs.Trap.{interrupt_cause};
@@ -12,6 +13,7 @@ ghost use Rattle.obj_core.specs.Out.{HasRoom, extended};
 ghost use Rattle.gc_base.specs.declared.limits.TheConstants.{PERIOD_MAX};
 ghost use Rattle.cpu_atomic.specs.Kept.{kept_latency};
 
+use crate::hart::{retire, set_line, trap};
 use crate::octets::number;
 use crate::packets;
 use crate::stage::Stage;
@@ -20,11 +22,12 @@ use gc_base::limits::TOP;
 use gc_base::{ObjId, PortNo, Tick};
 use gm_model::{Act, Entry, Packet};
 use obj_core::Outbox;
-use rv_step::{Arch, Demand, enter_trap, finish, need, take};
+use rv_step::{Arch, Demand, need, take};
 
-// The ports.
+/// The port of the fetches.
 const FETCH: PortNo = PortNo(0);
 
+/// The port of the data accesses.
 const DATA: PortNo = PortNo(1);
 
 // Causes of traps, by the privileged manual's "Machine Cause Register".
@@ -34,7 +37,7 @@ const LOAD_ACCESS: u64 = 5;
 
 const STORE_ACCESS: u64 = 7;
 
-/// A configured CPU but for its hart.
+/// A CPU that is configured, but for its hart.
 #[derive(Drop)]
 pub struct Frame {
     pub(crate) handle: EventHandle<50>,
@@ -43,8 +46,10 @@ pub struct Frame {
     pub(crate) ram: u32,
     pub(crate) timing: bool,
     pub(crate) draining: bool,
+    /// In ticks.
     pub(crate) period: u32,
     pub(crate) stage: Stage,
+    /// Whether its event is pending.
     pub(crate) due: bool,
     ghost owner: { handle.owner ≡ object.0 },
     ghost slot: { handle.slot ≡ 0 },
@@ -53,7 +58,7 @@ pub struct Frame {
     ghost fetched: { kept_latency stage ≤ 2 ^ 32 },
 }
 
-// the tick that comes d ticks later
+/// The tick that comes so many ticks later.
 fn later(now: Tick, d: u64) -> Tick
     requires now { now ≤ TOP }
     requires far { d ≤ 2 ^ 34 }
@@ -65,39 +70,14 @@ fn later(now: Tick, d: u64) -> Tick
     }
 }
 
-// the bit of mip
-fn mask(bit: u8) -> u64
-    requires { IsTrue (is_line bit) }
-    ensures { result ≡ 2 ^ bit }
-{
-    match bit {
-        3 => 8,
-        7 => 128,
-        _ => 2048,
-    }
-}
-
-// the line gets this level
-fn set_line(a: &mut Arch, bit: u8, level: bool)
-    requires { IsTrue (is_line bit) }
-    ensures { a.new ≡ with_line a.old bit level }
-{
-    let mask = mask(bit);
-    if level {
-        a.mip |= mask;
-    } else {
-        a.mip -= a.mip & mask;
-    }
-    let interrupt = a.mie & a.mip != 0;
-    a.asleep = a.asleep && !interrupt;
-}
-
 impl Frame {
     ghost use Rattle.gm_model.specs.ObjState.{AtomicCpu};
     ghost use Rattle.obj_core.specs.Events.{with_changes};
     ghost use Rattle.cpu_atomic.specs.Shown.{shown_frame};
 
-    // the next multiple of the period
+    // When its events come.
+
+    /// The next multiple of the period.
     #[tactic(auto, using(crate::proofs::Next::next_multiple_formula))]
     pub(crate) fn next_period(&self, now: Tick) -> Tick
         requires { now ≤ TOP }
@@ -106,7 +86,18 @@ impl Frame {
         now.next_multiple(self.period)
     }
 
-    // the tick at which an instruction ends whose accesses took so long
+    /// Its event comes at the next multiple of the period.
+    pub(crate) fn goes_on(&mut self, now: Tick, q: &mut EventQueue)
+        requires known { IsTrue (gave q.old.table self.old.object.0 0 50) }
+        requires tick { now ≤ TOP }
+        ensures due { self.new ≡ record self.old { due = true } }
+        ensures events { q.new ≡ record q.old { pending = rescheduled q.old.pending (event (next_multiple self.old.period now) 50 self.old.object.0 0) } }
+    {
+        q.reschedule(&self.handle, self.next_period(now));
+        self.due = true;
+    }
+
+    /// The tick at which an instruction ends whose accesses took so long.
     pub(crate) fn end(&self, now: Tick, latency: u64) -> Tick
         requires now { now ≤ TOP }
         requires latency { latency ≤ 2 ^ 33 }
@@ -115,7 +106,9 @@ impl Frame {
         later(now, self.period as u64 + latency)
     }
 
-    // an instruction or a trap is over: the next event comes at a tick, unless the hart sleeps
+    // The end of an instruction.
+
+    /// An instruction or a trap is over: the next event comes at a tick, unless the hart sleeps.
     fn ends(&mut self, a: &Arch, at: Tick, e: Entry, q: &mut EventQueue, out: &mut Outbox)
         requires known { IsTrue (gave q.old.table self.old.object.0 0 50) }
         requires room { HasRoom out.old }
@@ -134,7 +127,7 @@ impl Frame {
         }
     }
 
-    // the word at pc retires, with the number that its load got
+    /// The word at pc retires, with the number that its load got.
     fn retires(
         &mut self,
         a: &mut Arch,
@@ -151,12 +144,11 @@ impl Frame {
         ensures out { out.new ≡ extended out.old (cpu_retires (shown_frame self.old (Some a.old)) a.old out.old.next at word v).acts (cpu_retires (shown_frame self.old (Some a.old)) a.old out.old.next at word v).entries (cpu_retires (shown_frame self.old (Some a.old)) a.old out.old.next at word v).next }
         ensures answer { (cpu_retires (shown_frame self.old (Some a.old)) a.old out.old.next at word v).answer ≡ NothingAnswer }
     {
-        let pc = a.pc;
-        finish(a, word, v);
-        self.ends(a, at, Entry::Retired { pc, word }, q, out);
+        let entry = retire(a, word, v);
+        self.ends(a, at, entry, q, out);
     }
 
-    // it traps
+    /// It traps.
     fn traps(
         &mut self,
         a: &mut Arch,
@@ -173,11 +165,13 @@ impl Frame {
         ensures out { out.new ≡ extended out.old (cpu_traps (shown_frame self.old (Some a.old)) a.old out.old.next at cause tval).acts (cpu_traps (shown_frame self.old (Some a.old)) a.old out.old.next at cause tval).entries (cpu_traps (shown_frame self.old (Some a.old)) a.old out.old.next at cause tval).next }
         ensures answer { (cpu_traps (shown_frame self.old (Some a.old)) a.old out.old.next at cause tval).answer ≡ NothingAnswer }
     {
-        enter_trap(a, cause, tval);
-        self.ends(a, at, Entry::Trapped { cause, tval }, q, out);
+        let entry = trap(a, cause, tval);
+        self.ends(a, at, entry, q, out);
     }
 
-    // between two instructions: an interrupt or a trap is entered, or the word at pc is fetched
+    // Requests and responses.
+
+    /// Between two instructions: an interrupt is entered, or the next instruction begins.
     pub(crate) fn begins(&mut self, a: &mut Arch, now: Tick, q: &mut EventQueue, out: &mut Outbox)
         requires known { IsTrue (gave q.old.table self.old.object.0 0 50) }
         requires room { HasRoom out.old }
@@ -187,20 +181,33 @@ impl Frame {
         ensures out { out.new ≡ extended out.old (cpu_begins (shown_frame self.old (Some a.old)) a.old out.old.next now (interrupt_cause a.old) (is_in_ram self.old.ram a.old.pc 4)).acts (cpu_begins (shown_frame self.old (Some a.old)) a.old out.old.next now (interrupt_cause a.old) (is_in_ram self.old.ram a.old.pc 4)).entries (cpu_begins (shown_frame self.old (Some a.old)) a.old out.old.next now (interrupt_cause a.old) (is_in_ram self.old.ram a.old.pc 4)).next }
         ensures answer { (cpu_begins (shown_frame self.old (Some a.old)) a.old out.old.next now (interrupt_cause a.old) (is_in_ram self.old.ram a.old.pc 4)).answer ≡ NothingAnswer }
     {
-        let at = self.end(now, 0);
-        if let Some(cause) = take(a) {
-            self.traps(a, at, cause, 0, q, out);
-        } else if packets::in_ram(self.ram, a.pc, 4) {
+        match take(a) {
+            Some(cause) => self.traps(a, self.end(now, 0), cause, 0, q, out),
+            None => self.fetches(a, now, q, out),
+        }
+    }
+
+    /// No interrupt is taken: the word at pc is fetched, or a fetch outside RAM traps.
+    fn fetches(&mut self, a: &mut Arch, now: Tick, q: &mut EventQueue, out: &mut Outbox)
+        requires known { IsTrue (gave q.old.table self.old.object.0 0 50) }
+        requires room { HasRoom out.old }
+        requires tick { now ≤ TOP }
+        ensures state { AtomicCpu (shown_frame self.new (Some a.new)) ≡ (cpu_begins (shown_frame self.old (Some a.old)) a.old out.old.next now None (is_in_ram self.old.ram a.old.pc 4)).state }
+        ensures events { q.new ≡ with_changes q.old (AtomicCpu (shown_frame self.old (Some a.old))) (cpu_begins (shown_frame self.old (Some a.old)) a.old out.old.next now None (is_in_ram self.old.ram a.old.pc 4)).changes }
+        ensures out { out.new ≡ extended out.old (cpu_begins (shown_frame self.old (Some a.old)) a.old out.old.next now None (is_in_ram self.old.ram a.old.pc 4)).acts (cpu_begins (shown_frame self.old (Some a.old)) a.old out.old.next now None (is_in_ram self.old.ram a.old.pc 4)).entries (cpu_begins (shown_frame self.old (Some a.old)) a.old out.old.next now None (is_in_ram self.old.ram a.old.pc 4)).next }
+        ensures answer { (cpu_begins (shown_frame self.old (Some a.old)) a.old out.old.next now None (is_in_ram self.old.ram a.old.pc 4)).answer ≡ NothingAnswer }
+    {
+        if packets::in_ram(self.ram, a.pc, 4) {
             let pkt = packets::fetch(out.fresh(), a.pc);
             self.stage = Stage::AwaitFetch;
             out.push(Act::Atomic { port: FETCH, pkt });
         } else {
-            let pc = a.pc;
+            let (at, pc) = (self.end(now, 0), a.pc);
             self.traps(a, at, INSTRUCTION_ACCESS, pc, q, out);
         }
     }
 
-    // the word was fetched, which took a latency: what it asks for decides
+    /// The word was fetched, which took a latency: what it asks for decides.
     pub(crate) fn fetched(
         &mut self,
         a: &mut Arch,
@@ -236,7 +243,7 @@ impl Frame {
         }
     }
 
-    // the data access of the word was served: it retires, or traps where the access was refused
+    /// The data access of the word was served: it retires, or traps where the access was refused.
     pub(crate) fn accessed(
         &mut self,
         a: &mut Arch,
@@ -272,7 +279,9 @@ impl Frame {
         }
     }
 
-    // an interrupt line has a new level, and a hart that it wakes goes on unless it is draining
+    // Interrupt lines.
+
+    /// An interrupt line has a new level, and a hart that it wakes goes on unless it is draining.
     pub(crate) fn lined(
         &mut self,
         a: &mut Arch,
@@ -295,8 +304,7 @@ impl Frame {
         set_line(a, bit, level);
         out.note(Entry::Line { bit, level });
         if slept && !a.asleep && !self.draining {
-            q.reschedule(&self.handle, self.next_period(now));
-            self.due = true;
+            self.goes_on(now, q);
         }
     }
 }

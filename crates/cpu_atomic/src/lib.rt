@@ -7,6 +7,7 @@
 
 mod atomic_cpu;
 mod frame;
+mod hart;
 mod octets;
 mod packets;
 mod running;

@@ -4,7 +4,7 @@ ghost use Rattle.rv_step.specs.Bytes.{number, bytes_of};
 ghost use Rattle.rv_step.specs.Width.{IsSize};
 ghost use Rattle.gm_model.specs.Packet.{with_front};
 
-// the number of the first 4 bytes
+/// The number of the first 4 bytes.
 pub(crate) fn word(m: &[u8]) -> u32
     requires { 4 ≤ length m.now }
     ensures { result ≡ number (take 4 m.now) }
@@ -12,6 +12,7 @@ pub(crate) fn word(m: &[u8]) -> u32
     u32::from_le_bytes([m[0], m[1], m[2], m[3]])
 }
 
+/// The number of the first 8 bytes.
 fn double(m: &[u8]) -> u64
     requires { 8 ≤ length m.now }
     ensures { result ≡ number (take 8 m.now) }
@@ -19,7 +20,7 @@ fn double(m: &[u8]) -> u64
     u64::from_le_bytes([m[0], m[1], m[2], m[3], m[4], m[5], m[6], m[7]])
 }
 
-// the number of the first bytes, so many of them
+/// The number of the first bytes, so many of them.
 pub(crate) fn number(m: &[u8], size: u8) -> u64
     requires inside { 8 ≤ length m.now }
     requires size { IsSize size }
@@ -33,7 +34,7 @@ pub(crate) fn number(m: &[u8], size: u8) -> u64
     }
 }
 
-// the low bytes of v, so many of them, are put in front
+/// The low bytes of v, so many of them, are put in front.
 pub(crate) fn put_number(m: &mut [u8], size: u8, v: u64)
     requires inside { 8 ≤ length m.old }
     requires size { IsSize size }

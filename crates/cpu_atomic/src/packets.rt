@@ -9,21 +9,23 @@ use crate::octets::put_number;
 use gc_base::PktId;
 use gm_model::{Cmd, Packet};
 
-// Who makes a request, as it is noted.
+/// The source of the fetches, as it is noted.
 const FETCH: u8 = 0;
 
+/// The source of the data accesses.
 const DATA: u8 = 1;
 
-// Where RAM begins.
+/// The address of RAM's first byte.
 const RAM_BASE: u64 = 0x8000_0000;
 
-// whether so many bytes at an address lie in RAM of this size
+/// Whether so many bytes at an address lie in RAM of this size.
 pub(crate) fn in_ram(ram: u32, addr: u64, count: u8) -> bool
     ensures { result ≡ is_in_ram ram addr count }
 {
     addr >= RAM_BASE && addr - RAM_BASE + count as u64 <= ram as u64
 }
 
+/// A new request, with no bytes yet.
 fn request(id: PktId, src: u8, cmd: Cmd, addr: u64, size: u8, uncached: bool) -> Packet
     ensures { result ≡ request_of id.0 src cmd addr size [] uncached }
 {
@@ -41,21 +43,21 @@ fn request(id: PktId, src: u8, cmd: Cmd, addr: u64, size: u8, uncached: bool) ->
     }
 }
 
-// the fetch of the word at pc
+/// The fetch of the word at pc.
 pub(crate) fn fetch(id: PktId, pc: u64) -> Packet
     ensures { result ≡ fetch_request id.0 pc }
 {
     request(id, FETCH, Cmd::Read, pc, 4, false)
 }
 
-// the data access of a load
+/// The data access of a load.
 pub(crate) fn load(id: PktId, ram: u32, addr: u64, size: u8) -> Packet
     ensures { result ≡ load_request ram id.0 addr size }
 {
     request(id, DATA, Cmd::Read, addr, size, !in_ram(ram, addr, size))
 }
 
-// the data access of a store of v
+/// The data access of a store of v.
 pub(crate) fn store(id: PktId, ram: u32, addr: u64, size: u8, v: u64) -> Packet
     requires { IsSize size }
     ensures { result ≡ store_request ram id.0 addr size v }

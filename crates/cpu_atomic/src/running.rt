@@ -33,7 +33,9 @@ impl Running {
     ghost use Rattle.cpu_atomic.specs.Kept.{stage_of};
     ghost use Rattle.cpu_atomic.specs.Shown.{shown, shown_frame};
 
-    // one at its start
+    // Set-up.
+
+    /// One at its start, which is inactive.
     pub(crate) fn start(params: &Params, period: u64, handle: EventHandle<50>) -> Running
         requires owner { handle.owner ≡ params.now.object.0 }
         requires slot { handle.slot ≡ 0 }
@@ -55,7 +57,9 @@ impl Running {
         Running { frame, arch: None }
     }
 
-    // its event is served
+    // Own events.
+
+    /// Its event is served: it begins an instruction, where it is at rest and awake.
     pub(crate) fn event(&mut self, now: Tick, q: &mut EventQueue, out: &mut Outbox)
         requires known { IsTrue (gave q.old.table self.old.frame.object.0 0 50) }
         requires room { HasRoom out.old }
@@ -73,7 +77,9 @@ impl Running {
         }
     }
 
-    // its packet was served, which took a latency
+    // Responses and interrupt lines.
+
+    /// Its packet was served, which took a latency.
     pub(crate) fn done(
         &mut self,
         now: Tick,
@@ -107,7 +113,7 @@ impl Running {
         }
     }
 
-    // an interrupt line has a new level
+    /// An interrupt line has a new level.
     pub(crate) fn lined(
         &mut self,
         now: Tick,
@@ -130,6 +136,9 @@ impl Running {
         }
     }
 
+    // Drain and resume.
+
+    /// Whether it stands between two instructions.
     fn is_resting(&self) -> bool
         ensures { result ≡ is_resting (stage_of self.now.frame.stage) }
     {
@@ -140,6 +149,7 @@ impl Running {
         }
     }
 
+    /// Whether the hart is there, and asleep.
     fn is_asleep(&self) -> bool
         ensures { result ≡ is_asleep self.now.arch }
     {
@@ -149,6 +159,7 @@ impl Running {
         }
     }
 
+    /// Whether the hart is there, and awake.
     fn is_awake(&self) -> bool
         ensures { result ≡ is_awake self.now.arch }
     {
@@ -158,14 +169,14 @@ impl Running {
         }
     }
 
-    // whether it stands between two instructions, and no event of its is pending
+    /// Whether it stands between two instructions, and its event isn't pending.
     pub(crate) fn drained(&self) -> bool
         ensures { result ≡ is_drained (shown (Some self.now)) }
     {
         self.is_resting() && !self.frame.due
     }
 
-    // begins nothing new
+    /// Lets it begin nothing new.
     pub(crate) fn drain(&mut self, q: &mut EventQueue)
         requires known { IsTrue (gave q.old.table self.old.frame.object.0 0 50) }
         ensures state { shown (Some self.new) ≡ (drain_step (shown (Some self.old))).state }
@@ -178,7 +189,7 @@ impl Running {
         }
     }
 
-    // goes on
+    /// Lets it go on.
     pub(crate) fn resume(&mut self, now: Tick, q: &mut EventQueue)
         requires known { IsTrue (gave q.old.table self.old.frame.object.0 0 50) }
         requires tick { now ≤ TOP }
@@ -187,9 +198,7 @@ impl Running {
     {
         self.frame.draining = false;
         if self.is_awake() {
-            let at = self.frame.next_period(now);
-            q.reschedule(&self.frame.handle, at);
-            self.frame.due = true;
+            self.frame.goes_on(now, q);
         }
     }
 }

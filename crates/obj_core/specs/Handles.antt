@@ -1,10 +1,10 @@
 -- Which handles a part gets, and that a queue gave them. This project's own rules.
 use Rattle.std.specs.Prelude.{◌≡◌, ℕ, ◌+◌, ◌==◌, ◌&&◌, Bool, true, IsTrue, if◌then◌else◌, List, [], ◌∷◌}
 use Rattle.ev_queue.specs.Handle.{Handle}
-use Rattle.ev_queue.specs.SlotTable.{gave}
 use Rattle.ev_queue.specs.declared.slot.Slot.{Slot}
 use Rattle.gm_model.specs.Kind.{kind_of_own}
 use Rattle.gm_model.specs.Platform.{slot_classes}
+use Rattle.gm_model.specs.Sound.{gave_from}
 use Rattle.gm_model.specs.ObjState.{ObjState, Blank, AtomicCpu, Server, device_kind}
 use Rattle.gm_model.specs.declared.kind.Kind.{Kind}
 use Rattle.gm_model.specs.declared.kind.Kind.TheVariants as kinds
@@ -28,11 +28,6 @@ pub record AreHandlesOf (p : Params) (h : Handles) : Type 0 where
   pub request : h.request.items ≡ handles_of p.object.0 (kind_of_own p.own) 10
   pub devices : h.device.items ≡ handles_of p.object.0 (kind_of_own p.own) 30
   pub cpus : h.cpu.items ≡ handles_of p.object.0 (kind_of_own p.own) 50
-
--- the queue gave the handles of an object's slots from a number on, which have these classes
-abbrev pub gave_from : List Slot → ℕ → ℕ → List ℕ → Bool
-gave_from table object slot [] = true
-gave_from table object slot (c ∷ cs) = gave table object slot c && gave_from table object (slot + 1) cs
 
 -- the queue gave the handles of a configured part
 abbrev pub HasHandles : List Slot → ObjState → Type 0

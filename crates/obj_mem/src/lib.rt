@@ -6,7 +6,6 @@
 #![tactic(auto)]
 
 mod mem;
-mod note;
 mod ram;
 mod running;
 mod serve;

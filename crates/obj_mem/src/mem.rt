@@ -1,4 +1,5 @@
-// RAM as a part of the machine.
+// RAM as a part of the machine: each request is served at once, and takes the same latency. This project's own rule.
+// Not modelled: banks, rows and refresh of a real memory, and the queue of the timing mode.
 ghost use Rattle.std.specs.Prelude.{◌≡◌};
 
 use crate::running::Running;
@@ -6,6 +7,7 @@ use ev_queue::EventQueue;
 use gc_base::{NoMemory, Tick};
 use gm_model::{Answer, Kind, Own, Packet, Params, Wake, Way};
 use obj_core::{Handles, LineInfo, Outbox, SimObject};
+use obj_server::read_response;
 use rv_step::Arch;
 use std::alloc::Global;
 
@@ -19,6 +21,8 @@ impl Mem {
     ghost use Rattle.obj_mem.specs.Shown.{shown};
     ghost use Rattle.gm_model.specs.ObjState.{Blank};
     ghost use Rattle.gm_model.specs.declared.kind.Kind.TheVariants as kinds;
+
+    // Set-up.
 
     /// Memory that isn't configured.
     pub fn blank() -> Mem
@@ -37,20 +41,22 @@ impl SimObject for Mem {
         Kind::Mem
     }
 
+    // Set-up.
+
     fn configure(
         &mut self,
         alloc: Global,
         params: &Params,
         handles: Handles,
     ) -> Result<(), NoMemory> {
-        let mut mine = handles.device;
-        if let Own::Mem { latency, queue } = params.own {
-            if let Some(handle) = mine.pop() {
-                self.inner = Some(Running::new(alloc, params, latency, queue, handle)?);
-            }
+        let mut devices = handles.device;
+        if let (Own::Mem { latency, queue }, Some(serve)) = (params.own, devices.pop()) {
+            self.inner = Some(Running::start(alloc, params, latency, queue, serve)?);
         }
         Ok(())
     }
+
+    // Requests, responses and own events: it has none yet.
 
     #[tactic(auto, unfolding(gm_model::specs::ObjectStep::object_step))]
     fn wake(&mut self, w: Wake, _now: Tick, _q: &mut EventQueue, _out: &mut Outbox) -> Answer {
@@ -65,22 +71,28 @@ impl SimObject for Mem {
         }
     }
 
+    // Atomic access.
+
     #[tactic(auto, unfolding(gm_model::specs::ObjectStep::atomic_step))]
     fn atomic(&mut self, p: &mut Packet, _now: Tick, _q: &mut EventQueue, out: &mut Outbox) -> Way {
         match &mut self.inner {
-            None => Way::Done { latency: 0 },
             Some(r) => {
                 r.ram.serve(p, out);
-                Way::Done { latency: r.latency }
+                Way::Done {
+                    latency: r.server.latency,
+                }
             }
+            None => Way::Done { latency: 0 },
         }
     }
+
+    // Functional access and own bytes.
 
     #[tactic(auto, unfolding(gm_model::specs::ObjectStep::functional_step))]
     fn functional(&self, p: &mut Packet) -> Way {
         if let Some(r) = &self.inner {
             if r.ram.holds(p.addr, p.size) {
-                r.ram.answer(p);
+                read_response(p, r.ram.bytes_at(p.addr, p.size));
             }
         }
         Way::Done { latency: 0 }
@@ -88,33 +100,35 @@ impl SimObject for Mem {
 
     fn own_bytes(&self, at: u64, to: &mut [u8]) -> bool {
         match &self.inner {
-            None => false,
             Some(r) => {
                 r.ram.read(at, to);
                 true
             }
+            None => false,
         }
     }
 
     fn put_own_bytes(&mut self, at: u64, from: &[u8]) -> bool {
         match &mut self.inner {
-            None => false,
             Some(r) => {
                 r.ram.put(at, from);
                 true
             }
+            None => false,
         }
     }
 
+    // Mode, drain and resume.
+
     fn set_mode(&mut self, timing: bool) {
         if let Some(r) = &mut self.inner {
-            r.timing = timing;
+            r.server.set_mode(timing);
         }
     }
 
     fn drain(&mut self, _q: &mut EventQueue) {
         if let Some(r) = &mut self.inner {
-            r.draining = true;
+            r.server.drain();
         }
     }
 
@@ -124,9 +138,11 @@ impl SimObject for Mem {
 
     fn resume(&mut self, _now: Tick, _q: &mut EventQueue) {
         if let Some(r) = &mut self.inner {
-            r.draining = false;
+            r.server.resume();
         }
     }
+
+    // Lines: it has none.
 
     fn dirty_line(&self, _n: u32, _bytes: &mut [u8; 64]) -> Option<u64> {
         None
@@ -138,6 +154,8 @@ impl SimObject for Mem {
 
     fn invalidate(&mut self) {}
 
+    // The hart: a CPU has it.
+
     fn arch(&self) -> Option<Arch> {
         None
     }
@@ -147,6 +165,8 @@ impl SimObject for Mem {
     }
 
     fn give_arch(&mut self, _a: Arch) {}
+
+    // Exit and input: other devices have them.
 
     fn exit_code(&self) -> Option<u32> {
         None

@@ -2,11 +2,11 @@
 ghost use Rattle.std.specs.Prelude.{◌≡◌, ◌+◌, ◌≤◌, length, take, drop, replicate, IfOk, IsTrue};
 ghost use Rattle.rv_step.specs.FlatMem.{in_ram, ram_put};
 ghost use Rattle.gm_model.specs.Command.{with_bytes_at};
-ghost use Rattle.gm_model.specs.Packet.{read_response, carried_bytes};
+ghost use Rattle.gm_model.specs.Packet.{carried_bytes};
 ghost use Rattle.gm_model.specs.Serve.{ram_bytes};
 
 use gc_base::NoMemory;
-use gm_model::{Cmd, Packet};
+use gm_model::Packet;
 use std::alloc::Global;
 use std::marker::Model;
 
@@ -30,6 +30,8 @@ impl Model for Ram {
 }
 
 impl Ram {
+    // Set-up.
+
     /// RAM of so many bytes, all 0.
     pub(crate) fn zeroed(alloc: Global, size: u32) -> Result<Ram, NoMemory>
         ensures { IfOk result (λ m. m ≡ replicate size 0) }
@@ -45,6 +47,29 @@ impl Ram {
         let n = self.bytes.len() as u64;
         addr >= RAM_BASE && addr - RAM_BASE <= n && size as u64 <= n - (addr - RAM_BASE)
     }
+
+    // Requests.
+
+    /// The bytes at an address.
+    pub(crate) fn bytes_at(&self, addr: u64, size: u8) -> &[u8]
+        requires { IsTrue (in_ram self.now addr size) }
+        ensures { result.now ≡ ram_bytes self.now addr size }
+    {
+        let first = (addr - RAM_BASE) as usize;
+        &self.bytes[first..first + size as usize]
+    }
+
+    /// Keeps what a write that lies in RAM carries.
+    pub(crate) fn keep(&mut self, p: &Packet)
+        requires size { p.now.size ≤ 64 }
+        requires within { IsTrue (in_ram self.old p.now.addr p.now.size) }
+        ensures value { self.new ≡ ram_put self.old p.now.addr (carried_bytes p.now) }
+        ensures size { length self.new ≡ length self.old }
+    {
+        self.put(p.addr - RAM_BASE, &p.bytes[..p.size as usize]);
+    }
+
+    // Own bytes.
 
     /// Reads the bytes from a place on.
     pub(crate) fn read(&self, at: u64, to: &mut [u8])
@@ -63,25 +88,5 @@ impl Ram {
     {
         let first = at as usize;
         self.bytes[first..first + from.len()].copy_from_slice(from);
-    }
-
-    /// Makes a read that lies in RAM its response.
-    pub(crate) fn answer(&self, p: &mut Packet)
-        requires size { p.old.size ≤ 64 }
-        requires within { IsTrue (in_ram self.now p.old.addr p.old.size) }
-        ensures { p.new ≡ read_response p.old (ram_bytes self.now p.old.addr p.old.size) }
-    {
-        self.read(p.addr - RAM_BASE, &mut p.bytes[..p.size as usize]);
-        p.cmd = Cmd::ReadResp;
-    }
-
-    /// Keeps what a write that lies in RAM carries.
-    pub(crate) fn keep(&mut self, p: &Packet)
-        requires size { p.now.size ≤ 64 }
-        requires within { IsTrue (in_ram self.old p.now.addr p.now.size) }
-        ensures value { self.new ≡ ram_put self.old p.now.addr (carried_bytes p.now) }
-        ensures size { length self.new ≡ length self.old }
-    {
-        self.put(p.addr - RAM_BASE, &p.bytes[..p.size as usize]);
     }
 }

@@ -1,24 +1,23 @@
 // How RAM serves a request.
-ghost use Rattle.std.specs.Prelude.{◌≡◌, ◌≤◌, [], IsTrue};
+ghost use Rattle.std.specs.Prelude.{◌≡◌, ◌≤◌, ◌<◌, ◌++◌, length, IsTrue};
 ghost use Rattle.rv_step.specs.FlatMem.{in_ram};
 ghost use Rattle.gm_model.specs.ObjState.{Memory};
 ghost use Rattle.gm_model.specs.Serve.{serve_memory};
 ghost use Rattle.gm_model.specs.declared.cmd.Cmd.TheVariants.{Read, Write, WriteBack};
-ghost use Rattle.obj_core.specs.Out.{HasRoom, extended};
 
-use crate::note::{note, refuse_read, refuse_write};
 use crate::ram::Ram;
 use gm_model::{Cmd, Packet};
 use obj_core::Outbox;
+use obj_server::{answer_read, answer_write, refuse};
 
 impl Ram {
     /// Serves a request, and notes it.
     pub(crate) fn serve(&mut self, p: &mut Packet, out: &mut Outbox)
         requires size { p.old.size ≤ 64 }
-        requires room { HasRoom out.old }
+        requires room { length out.old.entries < 64 }
         ensures device { Memory self.new ≡ (serve_memory self.old p.old p.old.cmd (in_ram self.old p.old.addr p.old.size)).device }
         ensures packet { p.new ≡ (serve_memory self.old p.old p.old.cmd (in_ram self.old p.old.addr p.old.size)).response }
-        ensures out { out.new ≡ extended out.old [] (serve_memory self.old p.old p.old.cmd (in_ram self.old p.old.addr p.old.size)).entries out.old.next }
+        ensures noted { out.new ≡ record out.old { entries = out.old.entries ++ (serve_memory self.old p.old p.old.cmd (in_ram self.old p.old.addr p.old.size)).entries } }
     {
         let within = self.holds(p.addr, p.size);
         match p.cmd {
@@ -33,37 +32,37 @@ impl Ram {
         }
     }
 
+    /// Serves a read, which lies in RAM or is refused.
     fn serve_read(&self, p: &mut Packet, within: bool, out: &mut Outbox)
         requires cmd { p.old.cmd ≡ Read }
         requires size { p.old.size ≤ 64 }
         requires within { within ≡ in_ram self.now p.old.addr p.old.size }
-        requires room { HasRoom out.old }
+        requires room { length out.old.entries < 64 }
         ensures packet { p.new ≡ (serve_memory self.now p.old Read within).response }
-        ensures out { out.new ≡ extended out.old [] (serve_memory self.now p.old Read within).entries out.old.next }
+        ensures noted { out.new ≡ record out.old { entries = out.old.entries ++ (serve_memory self.now p.old Read within).entries } }
     {
         if within {
-            self.answer(p);
+            answer_read(p, self.bytes_at(p.addr, p.size), false, out);
         } else {
-            refuse_read(p);
+            refuse(p, out);
         }
-        note(out, false, p, !within);
     }
 
+    /// Serves a write, which lies in RAM or is refused.
     fn serve_write(&mut self, p: &mut Packet, within: bool, out: &mut Outbox)
         requires cmd { p.old.cmd ≡ Write }
         requires size { p.old.size ≤ 64 }
         requires within { within ≡ in_ram self.old p.old.addr p.old.size }
-        requires room { HasRoom out.old }
+        requires room { length out.old.entries < 64 }
         ensures device { Memory self.new ≡ (serve_memory self.old p.old Write within).device }
         ensures packet { p.new ≡ (serve_memory self.old p.old Write within).response }
-        ensures out { out.new ≡ extended out.old [] (serve_memory self.old p.old Write within).entries out.old.next }
+        ensures noted { out.new ≡ record out.old { entries = out.old.entries ++ (serve_memory self.old p.old Write within).entries } }
     {
         if within {
             self.keep(p);
-            p.cmd = Cmd::WriteResp;
+            answer_write(p, false, out);
         } else {
-            refuse_write(p);
+            refuse(p, out);
         }
-        note(out, true, p, !within);
     }
 }

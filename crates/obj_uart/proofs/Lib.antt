@@ -1,2 +1,2 @@
-pub mod NotedBytes
-pub mod ShownKinds
+pub mod ShownExit
+pub mod ShownUart

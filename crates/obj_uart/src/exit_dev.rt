@@ -1,26 +1,16 @@
-// The exit device.
-ghost use Rattle.std.specs.Prelude.{◌≡◌, ◌≤◌, ◌<◌, ◌++◌, length, if◌then◌else◌};
-ghost use Rattle.gm_model.specs.Packet.{carried_number};
-ghost use Rattle.rv_step.specs.Flat.{in_exit};
+// The exit device: the guest ends its run with the first number that it writes there. This project's own device.
+// Not modelled: reads, which are refused, and a second number, which is lost.
+ghost use Rattle.std.specs.Prelude.{◌≡◌};
 
-use crate::reply::{accept_write, refuse_read, refuse_write};
-use crate::server::Server;
+mod running;
+
+use self::running::Running;
 use ev_queue::EventQueue;
 use gc_base::{NoMemory, Tick};
-use gm_model::{Answer, Cmd, Kind, Own, Packet, Params, Wake, Way};
+use gm_model::{Answer, Kind, Own, Packet, Params, Wake, Way};
 use obj_core::{Handles, LineInfo, Outbox, SimObject};
 use rv_step::Arch;
 use std::alloc::Global;
-
-/// The address at which a number is written.
-const REGISTER: u64 = 0x10_0000;
-
-/// A configured exit device.
-#[derive(Drop)]
-pub struct Running {
-    pub server: Server,
-    pub code: Option<u32>,
-}
 
 /// The exit device: it keeps the first number that the guest writes.
 #[derive(Drop)]
@@ -32,64 +22,13 @@ impl ExitDev {
     ghost use Rattle.obj_uart.specs.Shown.{shown_exit};
     ghost use Rattle.gm_model.specs.ObjState.{Blank};
 
+    // Set-up.
+
     /// An exit device that isn't configured.
     pub fn blank() -> ExitDev
         ensures { shown_exit result.inner ≡ Blank Kind.Exit }
     {
         ExitDev { inner: None }
-    }
-}
-
-/// The number that a write of four bytes brings, if it is for the register.
-fn written(p: &Packet) -> Option<u32>
-    ensures { result ≡ (if in_exit p.now.addr p.now.size then Some (carried_number p.now) else None) }
-{
-    let [a, b, c, d] = [p.bytes[0], p.bytes[1], p.bytes[2], p.bytes[3]];
-    if p.addr == REGISTER && p.size == 4 {
-        Some(u32::from_le_bytes([a, b, c, d]))
-    } else {
-        None
-    }
-}
-
-impl Running {
-    ghost use Rattle.gm_model.specs.Serve.{serve_exit};
-    ghost use Rattle.gm_model.specs.ObjState.{Exit};
-    ghost use Rattle.rv_step.specs.Flat.{in_exit};
-
-    /// Serves a request at once.
-    fn serve(&mut self, p: &mut Packet, out: &mut Outbox)
-        requires size { p.old.size ≤ 64 }
-        requires room { length out.old.entries < 64 }
-        ensures device { Exit self.new.code ≡ (serve_exit self.old.code p.old p.old.cmd (in_exit p.old.addr p.old.size)).device }
-        ensures server { self.new.server ≡ self.old.server }
-        ensures packet { p.new ≡ (serve_exit self.old.code p.old p.old.cmd (in_exit p.old.addr p.old.size)).response }
-        ensures noted { out.new ≡ record out.old { entries = out.old.entries ++ (serve_exit self.old.code p.old p.old.cmd (in_exit p.old.addr p.old.size)).entries } }
-    {
-        match p.cmd {
-            Cmd::Write => self.write(p, out),
-            Cmd::Read => refuse_read(p, out),
-            Cmd::WriteBack | Cmd::ReadResp | Cmd::WriteResp => {}
-        }
-    }
-
-    /// Serves a write.
-    fn write(&mut self, p: &mut Packet, out: &mut Outbox)
-        requires size { p.old.size ≤ 64 }
-        requires room { length out.old.entries < 64 }
-        requires write { p.old.cmd ≡ Cmd.Write }
-        ensures device { Exit self.new.code ≡ (serve_exit self.old.code p.old Cmd.Write (in_exit p.old.addr p.old.size)).device }
-        ensures server { self.new.server ≡ self.old.server }
-        ensures packet { p.new ≡ (serve_exit self.old.code p.old Cmd.Write (in_exit p.old.addr p.old.size)).response }
-        ensures noted { out.new ≡ record out.old { entries = out.old.entries ++ (serve_exit self.old.code p.old Cmd.Write (in_exit p.old.addr p.old.size)).entries } }
-    {
-        match written(p) {
-            Some(code) => {
-                self.code = self.code.or(Some(code));
-                accept_write(p, out);
-            }
-            None => refuse_write(p, out),
-        }
     }
 }
 
@@ -102,30 +41,38 @@ impl SimObject for ExitDev {
         Kind::Exit
     }
 
-    #[tactic(auto, using(crate::proofs::ShownKinds::exit_is_exit))]
+    // Set-up.
+
+    #[tactic(auto, using(crate::proofs::ShownExit::exit_is_exit))]
     fn configure(
         &mut self,
         _alloc: Global,
         params: &Params,
         handles: Handles,
     ) -> Result<(), NoMemory> {
-        let Own::Exit { latency } = params.own else {
-            return Ok(());
-        };
         let mut devices = handles.device;
-        let Some(serve) = devices.pop() else {
-            return Ok(());
-        };
-        let server = Server::start(params, latency, serve);
-        self.inner = Some(Running { server, code: None });
+        if let (Own::Exit { latency }, Some(serve)) = (params.own, devices.pop()) {
+            self.inner = Some(Running::start(params, latency, serve));
+        }
         Ok(())
     }
 
+    // Requests, responses and own events: it has none yet.
+
     #[tactic(auto, unfolding(gm_model::specs::ObjectStep::object_step))]
     fn wake(&mut self, w: Wake, _now: Tick, _q: &mut EventQueue, _out: &mut Outbox) -> Answer {
-        let _wake = w;
-        Answer::Nothing
+        match w {
+            Wake::Event { .. }
+            | Wake::Offer { .. }
+            | Wake::Taken { .. }
+            | Wake::Refused { .. }
+            | Wake::Retry { .. }
+            | Wake::Line { .. }
+            | Wake::AtomicDone { .. } => Answer::Nothing,
+        }
     }
+
+    // Atomic access.
 
     #[tactic(auto, unfolding(gm_model::specs::ObjectStep::atomic_step))]
     fn atomic(&mut self, p: &mut Packet, _now: Tick, _q: &mut EventQueue, out: &mut Outbox) -> Way {
@@ -140,20 +87,23 @@ impl SimObject for ExitDev {
         }
     }
 
-    #[tactic(auto, unfolding(gm_model::specs::ObjectStep::functional_step))]
+    // Functional access and own bytes: it has none.
+
+    #[tactic(auto, using(crate::proofs::ShownExit::exit_leaves_packet))]
     fn functional(&self, _p: &mut Packet) -> Way {
-        let _known = self.inner.is_some();
         Way::Done { latency: 0 }
     }
 
+    #[tactic(auto, using(crate::proofs::ShownExit::exit_keeps_no_bytes))]
     fn own_bytes(&self, _at: u64, _to: &mut [u8]) -> bool {
-        let _known = self.inner.is_some();
         false
     }
 
     fn put_own_bytes(&mut self, _at: u64, _from: &[u8]) -> bool {
         false
     }
+
+    // Mode, drain and resume.
 
     fn set_mode(&mut self, timing: bool) {
         if let Some(r) = &mut self.inner {
@@ -177,6 +127,8 @@ impl SimObject for ExitDev {
         }
     }
 
+    // Lines: it has none.
+
     fn dirty_line(&self, _n: u32, _bytes: &mut [u8; 64]) -> Option<u64> {
         None
     }
@@ -187,6 +139,8 @@ impl SimObject for ExitDev {
 
     fn invalidate(&mut self) {}
 
+    // The hart: a CPU has it.
+
     fn arch(&self) -> Option<Arch> {
         None
     }
@@ -196,6 +150,8 @@ impl SimObject for ExitDev {
     }
 
     fn give_arch(&mut self, _a: Arch) {}
+
+    // Exit and input: it has the number.
 
     fn exit_code(&self) -> Option<u32> {
         self.inner.as_ref().and_then(|r| r.code)

@@ -1,4 +1,4 @@
--- What is always so of a configured device. This project's own rules.
+-- What is always so of a part's handle. This project's own rule.
 use Rattle.std.specs.Prelude.{◌≡◌, ℕ}
 use Rattle.ev_queue.specs.Handle.{Handle}
 

@@ -1,0 +1,63 @@
+// What a server notes of a request.
+ghost use Rattle.std.specs.Prelude.{◌≡◌, ◌≤◌, ◌<◌, ◌++◌, length, take, drop, replicate};
+ghost use Rattle.gm_model.specs.Packet.{carried_bytes, is_write};
+ghost use Rattle.gm_model.specs.Serve.{served_entries, entry_bytes};
+
+use gm_model::{Cmd, Entry, Packet};
+use obj_core::Outbox;
+
+/// The requests of the hart and of the DMA engine have a source below this.
+const NOTED_SOURCES: u8 = 3;
+
+/// The first bytes, so many of them, and zeros behind.
+fn front(bytes: &[u8; 64], count: usize) -> [u8; 8]
+    requires { count ≤ 8 }
+    ensures { result ≡ take count bytes.now ++ drop count (replicate 8 0) }
+{
+    let mut front = [0; 8];
+    front[..count].copy_from_slice(&bytes[..count]);
+    front
+}
+
+/// The eight bytes that an entry has of a packet.
+#[tactic(auto, using(crate::proofs::NotedBytes::noted_short, crate::proofs::NotedBytes::noted_long))]
+fn noted_bytes(p: &Packet) -> [u8; 8]
+    requires { p.now.size ≤ 64 }
+    ensures { result ≡ entry_bytes (carried_bytes p.now) }
+{
+    if p.size <= 8 {
+        front(&p.bytes, p.size as usize)
+    } else {
+        front(&p.bytes, 8)
+    }
+}
+
+/// Whether a packet is of a write.
+fn writes(cmd: Cmd) -> bool
+    ensures { result ≡ is_write cmd }
+{
+    match cmd {
+        Cmd::Read | Cmd::ReadResp => false,
+        Cmd::Write | Cmd::WriteBack | Cmd::WriteResp => true,
+    }
+}
+
+/// Notes that a request with this command got this response, from RAM or from a device.
+pub(crate) fn note(cmd: Cmd, response: &Packet, device: bool, out: &mut Outbox)
+    requires size { response.now.size ≤ 64 }
+    requires room { length out.old.entries < 64 }
+    ensures { out.new ≡ record out.old { entries = out.old.entries ++ served_entries (record response.now { cmd = cmd }) response.now device } }
+{
+    if response.src < NOTED_SOURCES {
+        out.note(Entry::Served {
+            src: response.src,
+            id: response.id,
+            write: writes(cmd),
+            addr: response.addr,
+            size: response.size,
+            bytes: noted_bytes(response),
+            device,
+            fault: response.fault,
+        });
+    }
+}
