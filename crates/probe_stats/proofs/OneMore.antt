@@ -1,0 +1,19 @@
+-- One more at a place of a list of counts.
+use Rattle.std.proofs.Common.{◌≡◌, ℕ, suc, zero, ◌+◌, ◌<◌, ◌≤◌, refl, sym, ◌∙◌, ap, arith, List, [], ◌∷◌, length, get_or, set}
+use Rattle.gm_model.specs.Counts.{one_more_at}
+use Rattle.gm_model.specs.Sound.{AreUpTo}
+
+pub one_more-set : (ks : List ℕ) (i x : ℕ) → i < length ks → x ≡ get_or ks i x → set ks i (x + 1) ≡ one_more_at ks i
+one_more-set [] i x l e = absurd (omega arith)
+one_more-set (k ∷ ks) zero x l e = ap (λ n. (n + 1) ∷ ks) e
+one_more-set (k ∷ ks) (suc i) x l e = ap (λ ys. k ∷ ys) (one_more-set ks i x (omega arith) e)
+
+pub one_more-past : (ks : List ℕ) (i : ℕ) → length ks ≤ i → ks ≡ one_more_at ks i
+one_more-past [] i l = refl
+one_more-past (k ∷ ks) zero l = absurd (omega arith)
+one_more-past (k ∷ ks) (suc i) l = ap (λ ys. k ∷ ys) (one_more-past ks i (omega arith))
+
+pub up_to-at : (n : ℕ) (ks : List ℕ) (i d : ℕ) → AreUpTo n ks → i < length ks → get_or ks i d ≤ n
+up_to-at n [] i d h l = absurd (omega arith)
+up_to-at n (k ∷ ks) zero d h l = h.0
+up_to-at n (k ∷ ks) (suc i) d h l = up_to-at n ks i d h.1 (omega arith)

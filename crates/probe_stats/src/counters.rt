@@ -1,0 +1,141 @@
+// How often what was noted.
+ghost use Rattle.std.specs.Prelude.{◌≡◌, ℕ, ◌+◌, ◌-◌, ◌^◌, ◌<◌, length, vec_len, IfOk};
+ghost use Rattle.gm_model.specs.Counts.{count_entry, count_access, one_more_at};
+ghost use Rattle.gm_model.specs.Platform.{platform};
+ghost use Rattle.gm_model.specs.Sound.{AreUpTo, IsCountedUpTo};
+ghost use Rattle.probe_stats.specs.Counted.{begun_at};
+
+use gc_base::{NoMemory, ObjId, Tick};
+use gm_model::platform::part_count;
+use gm_model::{Config, Entry};
+use std::alloc::Global;
+use std::marker::Model;
+
+/// How often what was noted since a tick, of some objects each, and how many events there were.
+#[derive(Drop)]
+pub struct Counters {
+    retired: u64,
+    sleeps: u64,
+    traps: u64,
+    device_reads: u64,
+    device_writes: u64,
+    ram_reads: u64,
+    ram_writes: u64,
+    hits: Vec<u64>,
+    misses: Vec<u64>,
+    refused: Vec<u64>,
+    events: u64,
+    since: Tick,
+}
+
+impl Model for Counters {
+    ghost use Rattle.probe_stats.specs.Counted.{Counted};
+
+    ghost Value = { Counted };
+
+    ghost view = { λ c. record {
+      counts = record {
+        retired = c.retired;
+        sleeps = c.sleeps;
+        traps = c.traps;
+        device_reads = c.device_reads;
+        device_writes = c.device_writes;
+        ram_reads = c.ram_reads;
+        ram_writes = c.ram_writes;
+        hits = c.hits.items;
+        misses = c.misses.items;
+        refused = c.refused.items;
+        events = c.events;
+      };
+      since = c.since;
+    } };
+}
+
+impl Counters {
+    /// Counters of the parts of a machine, all 0, since tick 0.
+    pub fn new(alloc: Global, c: &Config) -> Result<Counters, NoMemory>
+        ensures { IfOk result (λ t. t ≡ begun_at (length (platform c.now)) 0) }
+    {
+        let parts = part_count(c);
+        Ok(Counters {
+            retired: 0,
+            sleeps: 0,
+            traps: 0,
+            device_reads: 0,
+            device_writes: 0,
+            ram_reads: 0,
+            ram_writes: 0,
+            hits: vec![in alloc; 0; parts]?,
+            misses: vec![in alloc; 0; parts]?,
+            refused: vec![in alloc; 0; parts]?,
+            events: 0,
+            since: start(),
+        })
+    }
+
+    /// Counts an entry. Each counter is below 2^64 - 1.
+    pub fn note(&mut self, e: &Entry)
+        requires { IsCountedUpTo (2 ^ 64 - 2) self.old.counts }
+        ensures { self.new ≡ record self.old { counts = count_entry self.old.counts e.now } }
+    {
+        match e {
+            Entry::Served { write, device, .. } => self.note_access(*device, *write),
+            Entry::Retired { .. } => self.retired += 1,
+            Entry::Trapped { .. } => self.traps += 1,
+            Entry::Line { .. } => {}
+            Entry::Slept => self.sleeps += 1,
+            Entry::Hit { object } => count_one(&mut self.hits, *object),
+            Entry::Miss { object } => count_one(&mut self.misses, *object),
+            Entry::Refused { object } => count_one(&mut self.refused, *object),
+        }
+    }
+
+    /// Counts an access, by whether it is of a device and whether it writes.
+    fn note_access(&mut self, device: bool, write: bool)
+        requires { IsCountedUpTo (2 ^ 64 - 2) self.old.counts }
+        ensures { self.new ≡ record self.old { counts = count_access self.old.counts device write } }
+    {
+        match (device, write) {
+            (true, true) => self.device_writes += 1,
+            (true, false) => self.device_reads += 1,
+            (false, true) => self.ram_writes += 1,
+            (false, false) => self.ram_reads += 1,
+        }
+    }
+
+    /// Counts an event.
+    pub fn event(&mut self)
+        requires { self.old.counts.events < 2 ^ 64 - 1 }
+        ensures { self.new ≡ record self.old { counts = record self.old.counts { events = self.old.counts.events + 1 } } }
+    {
+        self.events += 1;
+    }
+
+    /// The tick since when it has counted.
+    pub fn since(&self) -> Tick
+        ensures { result ≡ self.now.since }
+    {
+        self.since
+    }
+}
+
+/// Tick 0.
+fn start() -> Tick
+    ensures { result ≡ 0 }
+{
+    match Tick::new(0) {
+        Some(tick) => tick,
+        None => unreachable!(),
+    }
+}
+
+/// Counts one more of an object, if there is such a one.
+fn count_one(counts: &mut Vec<u64>, object: ObjId)
+    requires { AreUpTo (2 ^ 64 - 2) counts.old.items }
+    ensures { counts.new.items ≡ one_more_at counts.old.items object.0 }
+{
+    let place = object.0 as usize;
+    if place < counts.len() {
+        counts[place] += 1;
+    }
+}
