@@ -1,0 +1,8 @@
+pub mod Parts
+pub mod Sends
+pub mod EntryLemmas
+pub mod Allowed
+pub mod Delivered
+pub mod Changes
+pub mod Runs
+pub mod Picks

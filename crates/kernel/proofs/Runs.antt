@@ -1,0 +1,252 @@
+-- Events and runs of a machine.
+use Rattle.std.proofs.Common.{◌≡◌, ℕ, suc, ◌+◌, ◌<◌, ◌≤◌, ◌⊎◌, inl, inr, ◌++◌, refl, sym, ◌∙◌, ap, subst, arith, add-one, IfSome, IsSome, Bool, true, false, cond, nat_lt, nat_le, List, [], ◌∷◌, length, slice_get, Option, Some, None}
+use Rattle.std.proofs.lemmas.Bool.{cases_lt}
+use Rattle.std.proofs.lemmas.Bool.Decides.{nat_tests}
+use Rattle.ev_queue.specs.declared.due.Due.{Due}
+use Rattle.ev_queue.specs.declared.slot.Slot.{Slot}
+use Rattle.ev_queue.specs.PendingList.{first, rest}
+use Rattle.gc_outside.specs.Told.{Told}
+use Rattle.gc_outside.specs.Sink.{Appends, AppendsFront}
+use Rattle.gc_outside.proofs.Outputs.{told_appends, told_appends_front, told_appends_nothing}
+use Rattle.gm_model.specs.Sys.{Sys}
+use Rattle.gm_model.specs.Deliver.{Delivery, Item}
+use Rattle.gm_model.specs.Fire.{Ran, fire, fire_first, fire_due, fire_event, timed_run, taken_out, without_nth, event_begun, event_delivered, counted}
+use Rattle.gm_model.specs.Run.{RunEnd, EndsRun, run_to, reason_at, reason_for, exit_reason, due_reason, late_reason, has_retired, is_late, exit_of, retired_in, console_of, last_tick}
+use Rattle.gm_model.specs.AtomicMachine.{IsAtomicMachine, IsRunReplayed}
+use Rattle.gm_model.specs.Sound.{IsSound}
+use Rattle.gm_model.specs.declared.entry.Entry.{Entry}
+use Rattle.gm_model.specs.declared.goal.Goal.{Goal}
+use Rattle.gm_model.specs.declared.goal.Reason.{Reason}
+use Rattle.gm_model.specs.declared.goal.Reason.TheVariants as reasons
+use Rattle.gm_model.proofs.ConsoleBytes.{console-append, fire_bytes}
+use Rattle.gm_model.proofs.ReplayRuns.{runs_replayed}
+use Rattle.gm_model.proofs.RunEnds.{runs_end, run_is, budget_ends}
+use Rattle.gm_model.proofs.SoundEvents.{fire_sound, fire_few, begun_sound, delivered_sound, same_events}
+use Rattle.kernel.specs.Ends.{StopsWithin, TellsEnd}
+use Rattle.kernel.specs.Ready.{MayServe, HasEventsLeft, at_tick, without_first}
+use Rattle.kernel.specs.Shown.{items_of}
+use Rattle.kernel.specs.declared.item.Item.{Item as KeptItem}
+use Rattle.kernel.proofs.Allowed.{may_serve}
+use Rattle.kernel.proofs.Delivered.{deliver_counts}
+
+first_taken : (es : List Due) → rest es ≡ without_nth es 0
+first_taken [] = refl
+first_taken (e ∷ es) = refl
+
+first_at : (es : List Due) (e : Due) → first es ≡ Some e → slice_get es 0 ≡ Some e
+first_at [] e h = cc
+first_at (f ∷ es) e h = h
+
+pub none_shown : (is : List KeptItem) → items_of is ≡ [] → is ≡ []
+none_shown [] e = refl
+none_shown (i ∷ is) e = cc
+
+-- the first event is popped: `b` is the machine without it
+module _ (s b : Sys) (e : Due) (table : List Slot) (h : IsSound s table) (events : HasEventsLeft s) (is : first s.pending ≡ Some e) (l : e.tick ≤ 4611703610613432320)
+    (popped : b ≡ without_first s) where
+  taken : at_tick e.tick b ≡ taken_out s 0 e.tick
+  taken = rw (popped, first_taken s.pending) refl
+
+  pub pop_may : (table' : List Slot) → table' ≡ table → MayServe (at_tick e.tick b) e table'
+  pop_may table' t = rw (taken, t) (may_serve s table 0 e.tick e h events (first_at s.pending e is) l)
+
+  pub fired_is : fire_first s ≡ counted (event_delivered (at_tick e.tick b) e)
+  unfolding fire
+  fired_is =
+      let P : Option Due → Type 0 = λ o. fire_due s o ≡ counted (event_delivered (at_tick e.tick b) e) in
+      let Q : Option Due → Type 0 = λ o. fire_event s 0 e.tick o ≡ counted (event_delivered (at_tick e.tick b) e) in
+      subst P (sym is) (subst Q (sym (first_at s.pending e is)) (ap (λ x. counted (event_delivered x e)) (sym taken)))
+
+  fired_once : fire_first s ≡ fire s 0 e.tick
+  fired_once = let P : Option Due → Type 0 = λ o. fire_due s o ≡ fire s 0 e.tick in subst P (sym is) refl
+
+  pub byte_few : (es : List Entry) → es ≡ (event_delivered (at_tick e.tick b) e).entries → length (console_of es) ≤ 1
+  byte_few es t =
+      let few = fire_bytes s 0 e.tick h.machine in
+      let same : es ≡ (fire s 0 e.tick).entries = t ∙ ap (λ r. r.entries) (sym fired_is ∙ fired_once) in
+      rw same few
+
+  pub fired_sys : (s' : Sys) → s' ≡ (counted (event_delivered (at_tick e.tick b) e)).sys → s' ≡ (fire_first s).sys
+  fired_sys s' t = t ∙ ap (λ r. r.sys) (sym fired_is)
+
+  pub fired_entries : (es : List Entry) → es ≡ (event_delivered (at_tick e.tick b) e).entries → es ≡ (fire_first s).entries
+  fired_entries es t = t ∙ ap (λ r. r.entries) (sym fired_is)
+
+  pub fired_sound : (s' : Sys) (table' : List Slot) → s' ≡ (counted (event_delivered (at_tick e.tick b) e)).sys → table' ≡ table → IsSound s' table'
+  fired_sound s' table' t u = rw (fired_sys s' t, fired_once, u) (fire_sound s table 0 e.tick h l)
+
+  pub fired_idle : (is' : List Item) → is' ≡ (event_delivered (at_tick e.tick b) e).items → is' ≡ []
+  fired_idle is' t =
+      let P : Sys → Type 0 = λ x. (event_delivered x e).items ≡ [] in
+      t ∙ subst P (sym taken) (delivered_sound (event_begun (taken_out s 0 e.tick) e) table (begun_sound s table 0 e.tick e h (first_at s.pending e is) l)).1
+
+-- the first event is replayed, if there is one
+pub first_replayed : (s : Sys) → IsAtomicMachine s [] → IsRunReplayed s (fire_first s)
+unfolding timed_run
+first_replayed s h = let r = runs_replayed.run s 1 h in record { machine = r.machine; replays = r.replays }
+
+pub run_to_replayed : (s : Sys) (g : Goal) → IsAtomicMachine s [] → IsRunReplayed s (run_to s g).ran
+run_to_replayed s g h =
+    let e = runs_end.run s g in
+    let P : Ran → Type 0 = λ r. IsRunReplayed s r in subst P (sym e.ran) (runs_replayed.run s (run_to s g).events h)
+
+-- the first event isn't too late
+pub first_early : (es : List Due) (e : Due) → first es ≡ Some e → IfSome (first es) (λ d. d.tick ≤ 4611703610613432320) → e.tick ≤ 4611703610613432320
+first_early es e is l = let P : Option Due → Type 0 = λ o. IfSome o (λ d. d.tick ≤ 4611703610613432320) in given (subst P is l) where
+  given : IfSome (Some e) (λ d. d.tick ≤ 4611703610613432320) → e.tick ≤ 4611703610613432320
+  given h = h
+
+-- a run goes on: there is an event, and not too late a one
+pub record GoesOn (o : Option Due) : Type 0 where
+  pub some : IsSome o
+  pub tick : IfSome o (λ d. d.tick ≤ 4611703610613432320)
+
+late : (g : Goal) (n : ℕ) (e : Due) → late_reason g n e.tick ≡ None → e.tick ≤ 4611703610613432320
+late g n e h = by_late (nat_lt last_tick e.tick) refl h where
+  by_late : (b : Bool) → nat_lt last_tick e.tick ≡ b
+      → cond b (Some reasons.TickLimit) (cond (is_late g.until e.tick) (Some reasons.Tick) (cond (nat_le g.budget n) (Some reasons.Limit) None)) ≡ None
+      → e.tick ≤ 4611703610613432320
+  by_late true k m = cc
+  by_late false k m = grind (arith, nat_tests, k)
+
+goes_due : (g : Goal) (n : ℕ) (o : Option Due) → due_reason g n o ≡ None → GoesOn o
+goes_due g n None h = cc
+goes_due g n (Some e) h = record { some = refl; tick = late g n e h }
+
+pub goes_on : (g : Goal) (n insts : ℕ) (s : Sys) → reason_for g n insts s ≡ None → GoesOn (first s.pending)
+goes_on g n insts s h = by_exit (exit_of s.objects) h where
+  by_insts : (b : Bool) → cond b (Some reasons.Insts) (due_reason g n (first s.pending)) ≡ None → GoesOn (first s.pending)
+  by_insts true k = cc
+  by_insts false k = goes_due g n (first s.pending) k
+
+  by_exit : (o : Option ℕ) → exit_reason g n insts s o ≡ None → GoesOn (first s.pending)
+  by_exit (Some code) k = cc
+  by_exit None k = by_insts (has_retired g.until insts) k
+
+-- what retired in two stretches
+retired-append : (xs ys : List Entry) → retired_in (xs ++ ys) ≡ retired_in xs + retired_in ys
+retired-append [] ys = omega arith
+retired-append (x ∷ xs) ys = omega (arith, retired-append xs ys)
+
+-- an event more
+module _ (start s : Sys) (n : ℕ) (here : s ≡ (timed_run start n).sys) where
+  pub run_more : (s' : Sys) → s' ≡ (fire_first s).sys → s' ≡ (timed_run start (n + 1)).sys
+  unfolding timed_run
+  run_more s' e = rw add-one (e ∙ ap (λ x. (fire_first x).sys) here)
+
+  pub insts_more : (insts insts' count : ℕ) (es : List Entry) → insts ≡ retired_in (timed_run start n).entries → es ≡ (fire_first s).entries → count ≡ retired_in es
+      → insts' ≡ insts + count → insts' ≡ retired_in (timed_run start (n + 1)).entries
+  unfolding timed_run
+  insts_more insts insts' count es i e c k =
+      rw add-one (omega (arith, i, k, c, ap retired_in (e ∙ ap (λ x. (fire_first x).entries) here), retired-append (timed_run start n).entries (fire_first (timed_run start n).sys).entries))
+
+  console_more : console_of (timed_run start (suc n)).entries ≡ console_of (timed_run start n).entries ++ console_of (fire_first s).entries
+  unfolding timed_run
+  console_more = console-append (timed_run start n).entries (fire_first (timed_run start n).sys).entries
+      ∙ ap (λ x. console_of (timed_run start n).entries ++ console_of (fire_first x).entries) (sym here)
+
+  pub wrote_more : (a b c : Option (List ℕ)) → Told (Appends (console_of (timed_run start n).entries)) a b → Told (Appends (console_of (fire_first s).entries)) b c
+      → Told (Appends (console_of (timed_run start (n + 1)).entries)) a c
+  wrote_more a b c h k = rw (add-one, console_more) (told_appends (console_of (timed_run start n).entries) (console_of (fire_first s).entries) a b c h k)
+
+  pub wrote_front : (a b c : Option (List ℕ)) → Told (Appends (console_of (timed_run start n).entries)) a b → Told (AppendsFront (console_of (fire_first s).entries)) b c
+      → Told (AppendsFront (console_of (timed_run start (suc n)).entries)) a c
+  wrote_front a b c h k = rw console_more (told_appends_front (console_of (timed_run start n).entries) (console_of (fire_first s).entries) a b c h k)
+
+  pub reason_is : (g : Goal) (insts : ℕ) (o : Option Reason) → insts ≡ retired_in (timed_run start n).entries → o ≡ reason_for g n insts s → reason_at g n (timed_run start n) ≡ o
+  reason_is g insts o i e = sym (rw (sym here, sym i) e)
+
+  pub last_reason : (g : Goal) (insts : ℕ) (o : Option Reason) → insts ≡ retired_in (timed_run start n).entries → o ≡ reason_for g g.budget insts s → n ≡ g.budget
+      → reason_at g n (timed_run start n) ≡ o
+  last_reason g insts o i e k = let P : ℕ → Type 0 = λ m. o ≡ reason_for g m insts s in reason_is g insts o i (subst P (sym k) e)
+
+-- there was no reason to end up to the n-th event
+pub none_before : (g : Goal) (start : Sys) (n : ℕ) → ((k : ℕ) → k < n → reason_at g k (timed_run start k) ≡ None) → reason_at g n (timed_run start n) ≡ None
+    → (k : ℕ) → k < n + 1 → reason_at g k (timed_run start k) ≡ None
+none_before g start n below at k l = by_place (cases_lt k n) where
+  by_place : (k < n) ⊎ (n ≤ k) → reason_at g k (timed_run start k) ≡ None
+  by_place (inl m) = below k m
+  by_place (inr m) = let P : ℕ → Type 0 = λ j. reason_at g j (timed_run start j) ≡ None in subst P (omega (arith, m, l)) at
+
+pub run_longer : (g : Goal) (start : Sys) (n : ℕ) → ((k : ℕ) → k < n + 1 → reason_at g k (timed_run start k) ≡ None) → n < (run_to start g).events
+run_longer g start n none = by_place (cases_lt n (run_to start g).events) where
+  wrong : (r : RunEnd) → EndsRun start g r → r.events ≤ n → ⊥
+  wrong r e l = let both : ◌≡◌ {A = Option Reason} None (Some r.reason) = sym (none r.events (omega (arith, l))) ∙ e.ends in cc
+
+  by_place : (n < (run_to start g).events) ⊎ ((run_to start g).events ≤ n) → n < (run_to start g).events
+  by_place (inl l) = l
+  by_place (inr l) = absurd (wrong (run_to start g) (runs_end.run start g) l)
+
+-- a run before its first event
+pub begun_sys : (s : Sys) → s ≡ (timed_run s 0).sys
+unfolding timed_run
+begun_sys s = refl
+
+pub begun_insts : (s : Sys) → 0 ≡ retired_in (timed_run s 0).entries
+unfolding timed_run
+begun_insts s = refl
+
+pub begun_bytes : (s : Sys) (a : Option (List ℕ)) → Told (Appends (console_of (timed_run s 0).entries)) a a
+unfolding timed_run
+begun_bytes s a = told_appends_nothing a
+
+fired_event_more : (s : Sys) (n t : ℕ) (e : Due) → (fire_event s n t (Some e)).sys.counts.events ≡ s.counts.events + 1
+fired_event_more s n t e =
+    let d : Delivery = event_delivered (taken_out s n t) e in
+    omega (arith, same_events d.sys.counts d.entries, ap (λ c. c.events) (deliver_counts 256 (event_begun (taken_out s n t) e)))
+
+-- an event more is counted
+pub events_more : (s : Sys) → IsSome (first s.pending) → (fire_first s).sys.counts.events ≡ s.counts.events + 1
+unfolding fire
+events_more s h = by_first s.pending refl h where
+  by_first : (es : List Due) → s.pending ≡ es → IsSome (first es) → (fire_due s (first es)).sys.counts.events ≡ s.counts.events + 1
+  by_first [] e k = cc
+  by_first (d ∷ es) e k = let P : List Due → Type 0 = λ xs. (fire_event s 0 d.tick (slice_get xs 0)).sys.counts.events ≡ s.counts.events + 1 in
+      subst P (sym e) (fired_event_more s 0 d.tick d)
+
+-- an event notes little
+pub few_fired : (s : Sys) (table : List Slot) (es : List Entry) → IsSound s table → IfSome (first s.pending) (λ d. d.tick ≤ 4611703610613432320) → es ≡ (fire_first s).entries → length es ≤ 10
+few_fired s table es h l e = by_first (first s.pending) refl l (e ∙ ap (λ o. (fire_due s o).entries) refl) where
+  by_first : (o : Option Due) → first s.pending ≡ o → IfSome o (λ d. d.tick ≤ 4611703610613432320) → es ≡ (fire_due s o).entries → length es ≤ 10
+  by_first None k m n = omega (arith, ap (λ xs. length xs) n)
+  by_first (Some d) k m n = omega (arith, ap (λ xs. length xs) n, fire_few s table 0 d.tick h m)
+
+-- what is told of a run that ends here
+module _ (start : Sys) (g : Goal) (n : ℕ) (why : Reason) (h : reason_at g n (timed_run start n) ≡ Some why)
+    (none : (k : ℕ) → k < n → reason_at g k (timed_run start k) ≡ None) where
+  pub ends_here : run_to start g ≡ record { ran = timed_run start n; events = n; reason = why }
+  ends_here = run_is start g n why h none
+
+  pub tells_end : (insts events : ℕ) → insts ≡ retired_in (timed_run start n).entries → events ≡ n
+      → TellsEnd (record { reason = why; insts = insts; events = events }) (run_to start g)
+  tells_end insts events i e = rw ends_here (record { reason = refl; insts = i; events = e })
+
+  pub ends_sys : (s : Sys) → s ≡ (timed_run start n).sys → s ≡ (run_to start g).ran.sys
+  ends_sys s e = rw ends_here e
+
+  pub ends_bytes : (a b : Option (List ℕ)) → Told (Appends (console_of (timed_run start n).entries)) a b → Told (Appends (console_of (run_to start g).ran.entries)) a b
+  ends_bytes a b t = rw ends_here t
+
+-- where the console failed
+pub stops_within : (start : Sys) (g : Goal) (n : ℕ) (s s' : Sys) (a b c : Option (List ℕ)) → s ≡ (timed_run start n).sys
+    → ((k : ℕ) → k < n → reason_at g k (timed_run start k) ≡ None) → reason_at g n (timed_run start n) ≡ None
+    → s' ≡ (fire_first s).sys → Told (Appends (console_of (timed_run start n).entries)) a b → Told (AppendsFront (console_of (fire_first s).entries)) b c
+    → StopsWithin start g s' a c
+stops_within start g n s s' a b c here below at e h k = record {
+  before = n;
+  within = run_longer g start n (none_before g start n below at);
+  sys = (let P : ℕ → Type 0 = λ m. s' ≡ (timed_run start m).sys in subst P (omega arith) (run_more start s n here s' e));
+  console = wrote_front start s n here a b c h k;
+}
+
+-- a run that goes on serves an event, which notes little
+module _ (s : Sys) (table : List Slot) (h : IsSound s table) (g : Goal) (n insts : ℕ) (none : ◌≡◌ {A = Option Reason} None (reason_for g n insts s)) where
+  pub few_running : (es : List Entry) → es ≡ (fire_first s).entries → length es ≤ 10
+  few_running es e = few_fired s table es h (goes_on g n insts s (sym none)).tick e
+
+  pub events_running : (s' : Sys) → s' ≡ (fire_first s).sys → s'.counts.events ≡ s.counts.events + 1
+  events_running s' e = ap (λ x. x.counts.events) e ∙ events_more s (goes_on g n insts s (sym none)).some
+
+-- the budget is served
+pub budget_out : (s : Sys) (table : List Slot) (h : IsSound s table) (g : Goal) (insts : ℕ) → ◌≡◌ {A = Option Reason} None (reason_for g g.budget insts s) → ⊥
+budget_out s table h g insts e = budget_ends g g.budget insts s (omega arith) (sym e)

@@ -1,0 +1,48 @@
+use Rattle.std.proofs.Common.{arith, refl, sym, ap, ◌∙◌}
+use Rattle.gm_model.specs.Command.{resume_step}
+use Rattle.kernel.proofs.Changes.{from_start, still_rest, one_commanded, one_changed, handles_still}
+use Rattle.kernel.proofs.machine.Machine.resume_parts.Goals as goal
+
+pub loop-i-init : goal.loop-i-init
+loop-i-init g c = record {
+  rest = refl;
+  resumed = from_start (λ o. resume_step o c.args.self.now.tick) _;
+  events = refl;
+  len = refl;
+  table = refl;
+  tick = refl;
+  out = refl;
+  todo = refl;
+  counters = refl;
+  router = refl;
+  draining = refl;
+}
+
+pub resume_box-requires-clause-handles : goal.resume_box-requires-clause-handles
+resume_box-requires-clause-handles g c =
+    let i = c.loop-i.invariant in
+    let v = c.loop-i.self.parts in
+    handles_still _ _ _ _ v.items c.loop-i.i c.index_mut.result.now c.requires.sound.parts i.table
+    (omega (arith, v.ok.0, i.len, c.len-i-end.ensures, c.loop-i-test.true)) c.index_mut.ensures.value i.rest
+
+pub loop-i-preserved : goal.loop-i-preserved
+loop-i-preserved g c =
+    let i = c.loop-i.invariant in
+    let v = c.loop-i.self.parts in
+    record {
+      rest = still_rest _ (λ o. resume_step o c.args.self.now.tick) _ v.items c.loop-i.i c.index_mut.result.now c.resume_box.new.part
+          (omega (arith, v.ok.0, i.len, c.len-i-end.ensures, c.loop-i-test.true)) c.index_mut.ensures.value i.rest (rw (sym i.tick) c.resume_box.ensures.state);
+      resumed = one_commanded _ (λ o. resume_step o c.args.self.now.tick) _ v.items c.loop-i.i c.index_mut.result.now c.resume_box.new.part
+          (omega (arith, v.ok.0, i.len, c.len-i-end.ensures, c.loop-i-test.true)) c.index_mut.ensures.value i.rest (rw (sym i.tick) c.resume_box.ensures.state) _ i.resumed;
+      events = one_changed _ (λ o. resume_step o c.args.self.now.tick) _ v.items c.loop-i.i c.index_mut.result.now c.resume_box.new.part
+          (omega (arith, v.ok.0, i.len, c.len-i-end.ensures, c.loop-i-test.true)) c.index_mut.ensures.value i.rest (rw (sym i.tick) c.resume_box.ensures.state)
+          c.loop-i.self.queue c.resume_box.new.q _ (rw (sym i.tick) c.resume_box.ensures.events) i.events;
+      len = i.len;
+      table = ap (λ q. q.table) c.resume_box.ensures.events ∙ i.table;
+      tick = i.tick;
+      out = i.out;
+      todo = i.todo;
+      counters = i.counters;
+      router = i.router;
+      draining = i.draining;
+    }

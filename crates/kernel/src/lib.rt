@@ -1,0 +1,25 @@
+//! The machine: boxed parts, the queue of their events, and the loop that serves them.
+//!
+//! Its promise: whatever parts it holds, each call of `Machine` is the definition of the plain model over the states that
+//! the parts show, and what its events note is replayed over flat memory. Read `specs/Shown.antt` first, and then
+//! `src/serve.rt`, where `fire`, `deliver` and `run` stand together. A packet is routed here by its address, with the
+//! latencies of both crossbars; crossbars as parts of their own, drain and checkpoints come later.
+#![tactic(auto)]
+
+mod boxes;
+mod build;
+mod build_fault;
+mod deliver;
+mod entries;
+mod item;
+mod machine;
+mod pick;
+mod reason;
+mod router;
+mod run_end;
+mod send;
+mod serve;
+
+pub use build_fault::BuildFault;
+pub use machine::Machine;
+pub use run_end::{Fired, RunEnd, RunFault};

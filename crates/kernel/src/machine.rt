@@ -1,0 +1,140 @@
+// The machine, and what it tells between two events.
+ghost use Rattle.std.specs.Prelude.{◌≡◌, ◌+◌, ◌-◌, ◌≤◌, [], length, take, drop, map};
+ghost use Rattle.std.specs.VecDeque.{deque_capacity};
+
+use crate::boxes::{arch_box, exit_box, read_box, resume_box, write_box};
+use crate::item::Item;
+use crate::router::Router;
+use ev_queue::EventQueue;
+use gc_base::Tick;
+use gm_model::Entry;
+use gm_model::platform::{ATOMIC_CPU, EXIT, MEMORY, RAM_BASE};
+use obj_core::{Outbox, SimObject};
+use probe_stats::Counters;
+use rv_step::Arch;
+use std::collections::VecDeque;
+
+/// A machine: its parts in the order of their paths, their pending events, and what was counted.
+///
+/// - Contracts see it as the model's `Sys`, by `sys_of` of what its parts show.
+/// - Between two calls nothing is left to deliver, and each wake that may come is allowed (`IsMachine`).
+#[derive(Drop)]
+pub struct Machine {
+    pub(crate) parts: Vec<Box<dyn SimObject>>,
+    pub(crate) queue: EventQueue,
+    pub(crate) out: Outbox,
+    pub(crate) todo: VecDeque<Item>,
+    pub(crate) counters: Counters,
+    pub(crate) router: Router,
+    pub(crate) tick: Tick,
+    pub(crate) draining: bool,
+    ghost quiet: { out.acts ≡ [] },
+    ghost room: { 64 ≤ deque_capacity todo },
+}
+
+impl Machine {
+    ghost use Rattle.gm_model.specs.Run.{exit_of};
+    ghost use Rattle.gm_model.specs.Start.{commanded, resumed_state, with_raw};
+    ghost use Rattle.gm_model.specs.Command.{resume_step};
+    ghost use Rattle.gm_model.specs.View.{own_ram, program_state};
+    ghost use Rattle.rv_step.specs.FlatMem.{ram_base};
+    ghost use Rattle.kernel.specs.Shown.{sys_of, entries_of, IsMachine};
+
+    /// The tick at which it stands.
+    pub fn now(&self) -> Tick
+        ensures { result ≡ (sys_of state self.now).tick }
+    {
+        self.tick
+    }
+
+    /// What the last event noted.
+    pub fn entries(&self) -> &[Entry]
+        ensures { result.now ≡ entries_of self.now }
+    {
+        self.out.entries()
+    }
+
+    /// The parts in the order of their paths, so that `ObjId(n)` names the n-th.
+    pub fn parts(&self) -> &[Box<dyn SimObject>]
+        ensures { map (λ b. state b) result.now ≡ (sys_of state self.now).objects }
+    {
+        self.parts.as_slice()
+    }
+
+    /// The hart's state.
+    pub fn arch(&self) -> Arch
+        requires { IsMachine state self.now }
+        ensures { result ≡ (program_state (sys_of state self.now) []).arch }
+    {
+        match arch_box(&self.parts[ATOMIC_CPU.0 as usize]) {
+            Some(arch) => arch,
+            None => unreachable!(),
+        }
+    }
+
+    /// The number with which the guest has exited, if it has.
+    pub fn exited(&self) -> Option<u32>
+        requires { IsMachine state self.now }
+        ensures { result ≡ exit_of (sys_of state self.now).objects }
+    {
+        exit_box(&self.parts[EXIT.0 as usize])
+    }
+
+    /// RAM's own bytes from an address on.
+    pub fn raw(&self, addr: u64, to: &mut [u8])
+        requires machine { IsMachine state self.now }
+        requires least { ram_base ≤ addr }
+        requires most { addr - ram_base + length to.old ≤ length (own_ram (sys_of state self.now).objects) }
+        ensures { to.new ≡ take (length to.old) (drop (addr - ram_base) (own_ram (sys_of state self.now).objects)) }
+    {
+        read_box(&self.parts[MEMORY.0 as usize], addr - RAM_BASE, to);
+    }
+
+    /// Sets RAM's own bytes from an address on.
+    pub fn put_raw(&mut self, addr: u64, from: &[u8])
+        requires machine { IsMachine state self.old }
+        requires least { ram_base ≤ addr }
+        requires most { addr - ram_base + length from.now ≤ length (own_ram (sys_of state self.old).objects) }
+        ensures raw { sys_of state self.new ≡ with_raw addr from.now (sys_of state self.old) }
+        ensures entries { entries_of self.new ≡ entries_of self.old }
+        ensures machine { IsMachine state self.new }
+    {
+        self.write_ram(addr - RAM_BASE, from);
+    }
+
+    /// Sets RAM's own bytes from a place on.
+    fn write_ram(&mut self, at: u64, from: &[u8])
+        requires machine { IsMachine state self.old }
+        requires within { at + length from.now ≤ length (own_ram (sys_of state self.old).objects) }
+        ensures raw { sys_of state self.new ≡ with_raw (ram_base + at) from.now (sys_of state self.old) }
+        ensures entries { entries_of self.new ≡ entries_of self.old }
+        ensures todo { self.new.todo.items ≡ self.old.todo.items }
+        ensures table { self.new.queue.table ≡ self.old.queue.table }
+    {
+        write_box(&mut self.parts[MEMORY.0 as usize], at, from);
+    }
+
+    /// Lets all parts go on, in the order of their paths.
+    pub fn resume_all(&mut self)
+        requires { IsMachine state self.old }
+        ensures resumed { sys_of state self.new ≡ resumed_state (sys_of state self.old) }
+        ensures entries { entries_of self.new ≡ entries_of self.old }
+        ensures machine { IsMachine state self.new }
+    {
+        self.resume_parts();
+        self.draining = false;
+    }
+
+    /// Each part goes on.
+    fn resume_parts(&mut self)
+        requires { IsMachine state self.old }
+        ensures resumed { sys_of state self.new ≡ commanded (λ o. resume_step o (sys_of state self.old).tick) (sys_of state self.old) }
+        ensures entries { entries_of self.new ≡ entries_of self.old }
+        ensures todo { self.new.todo.items ≡ self.old.todo.items }
+        ensures table { self.new.queue.table ≡ self.old.queue.table }
+    {
+        for i in 0..self.parts.len() {
+            resume_box(&mut self.parts[i], self.tick, &mut self.queue);
+        }
+    }
+}

@@ -1,0 +1,195 @@
+// The loop: an event is served, all that it causes is delivered, and so on until a run ends.
+ghost use Rattle.std.specs.Prelude.{◌≡◌, ℕ, ◌+◌, ◌^◌, ◌≤◌, ◌<◌, List, [], ◌∷◌, Option, Some, None, IfOk, OnOk, IfErr, OnErr, IfSome, OnSome, IfNone, length, IsSome};
+ghost use Rattle.std.specs.Option.{option_map, option_to_list};
+ghost use Rattle.gc_base.specs.declared.limits.TheConstants.{TOP};
+ghost use Rattle.gc_outside.specs.Faults.{Rose};
+ghost use Rattle.gc_outside.specs.Sink.{Appends, AppendsFront};
+ghost use Rattle.gc_outside.specs.Told.{Told};
+ghost use Rattle.ev_queue.specs.PendingList.{first};
+ghost use Rattle.gm_model.specs.AtomicMachine.{IsRunReplayed};
+ghost use Rattle.gm_model.specs.Deliver.{deliver, items_max};
+ghost use Rattle.gm_model.specs.Fire.{fire_first, event_delivered, counted};
+ghost use Rattle.gm_model.specs.Run.{console_of, reason_for, run_to};
+ghost use Rattle.kernel.specs.Ends.{TellsEnd, StopsWithin, IsFaultOf};
+ghost use Rattle.kernel.specs.Ready.{IsUnderWay, MayServe, HasEventsLeft, at_tick, not_begun, without_first};
+ghost use Rattle.kernel.specs.declared.run_end.RunFault.{RunFault};
+
+use crate::entries::{count, retired, told};
+use crate::machine::Machine;
+use crate::reason::{has_retired, late_reason};
+use crate::run_end::{Fired, RunEnd, RunFault};
+use crate::send::take_first;
+use ev_queue::Due;
+use gc_base::Tick;
+use gc_outside::Sink;
+use gm_model::{Goal, Reason, Wake};
+
+/// The most items that are delivered for one event.
+const ITEMS_MAX: u32 = 256;
+
+impl Machine {
+    ghost use Rattle.kernel.specs.Shown.{sys_of, delivery_of, entries_of, items_of, IsMachine};
+
+    /// Serves the first pending event at its own tick, with all that it causes.
+    pub fn fire(&mut self) -> Option<Fired>
+        requires machine { IsMachine state self.old }
+        requires events { HasEventsLeft (sys_of state self.old) }
+        requires tick { IfSome (first (sys_of state self.old).pending) (λ d. d.tick ≤ TOP) }
+
+        ensures event { option_map (λ f. f.due) result ≡ first (sys_of state self.old).pending }
+        ensures fired { sys_of state self.new ≡ (fire_first (sys_of state self.old)).sys }
+        ensures entries { OnSome result (entries_of self.new ≡ (fire_first (sys_of state self.old)).entries) }
+        ensures console { IfSome result (λ f. option_to_list f.console ≡ console_of (fire_first (sys_of state self.old)).entries) }
+        ensures none { IfNone result (entries_of self.new ≡ entries_of self.old) }
+        // What it noted is the instruction set's over flat memory.
+        ensures replay { IsRunReplayed (sys_of state self.old) (fire_first (sys_of state self.old)) }
+        ensures machine { IsMachine state self.new }
+    {
+        let due = self.take_event()?;
+        self.serve(&due);
+        Some(told(&due, self.out.entries()))
+    }
+
+    /// Takes the first pending event out, if one is pending.
+    fn take_event(&mut self) -> Option<Due>
+        ensures first { result ≡ first (sys_of state self.old).pending }
+        ensures rest { sys_of state self.new ≡ without_first (sys_of state self.old) }
+        ensures kept { (entries_of self.new ≡ entries_of self.old) × (self.new.todo.items ≡ self.old.todo.items) }
+        ensures table { self.new.queue.table ≡ self.old.queue.table }
+    {
+        self.queue.pop()
+    }
+
+    /// Serves an event that was taken out, at its own tick, with all that it causes.
+    fn serve(&mut self, due: &Due)
+        requires idle { self.old.todo.items ≡ [] }
+        requires event { MayServe (at_tick due.now.tick (sys_of state self.old)) due.now self.old.queue.table }
+        ensures served { sys_of state self.new ≡ (counted (event_delivered (at_tick due.now.tick (sys_of state self.old)) due.now)).sys }
+        ensures entries { entries_of self.new ≡ (event_delivered (at_tick due.now.tick (sys_of state self.old)) due.now).entries }
+        ensures delivered { items_of self.new.todo.items ≡ (event_delivered (at_tick due.now.tick (sys_of state self.old)) due.now).items }
+        ensures table { self.new.queue.table ≡ self.old.queue.table }
+    {
+        self.begin(due.tick);
+        self.wake(due.owner, Wake::Event { slot: due.slot });
+        self.deliver();
+        count(&mut self.counters, self.out.entries());
+    }
+
+    /// Stands at the tick of an event, which has noted nothing yet.
+    fn begin(&mut self, tick: Tick)
+        requires { self.old.todo.items ≡ [] }
+        ensures begun { delivery_of state self.new ≡ not_begun (at_tick tick (sys_of state self.old)) }
+        ensures table { self.new.queue.table ≡ self.old.queue.table }
+    {
+        self.tick = tick;
+        self.out.clear_entries();
+    }
+
+    /// Delivers the items in order, and those that they cause.
+    fn deliver(&mut self)
+        requires { IsUnderWay (delivery_of state self.old) self.old.queue.table }
+        ensures delivered { delivery_of state self.new ≡ deliver items_max (delivery_of state self.old) }
+        ensures table { self.new.queue.table ≡ self.old.queue.table }
+    {
+        'items: for _n in 0..ITEMS_MAX {
+            let Some(item) = take_first(&mut self.todo) else {
+                break;
+            };
+            self.deliver_item(item);
+        }
+    }
+
+    /// Serves events until there is a reason to end, and hands the console its bytes.
+    pub fn run<C: Sink, R: Sink>(
+        &mut self,
+        g: Goal,
+        console: &mut C,
+        _report: &mut R,
+    ) -> Result<RunEnd, RunFault>
+        requires machine { IsMachine state self.old }
+        requires events { (sys_of state self.old).counts.events + g.budget < 2 ^ 55 }
+
+        ensures ended { IfOk result (λ e. TellsEnd e (run_to (sys_of state self.old) g)) }
+        ensures ran { OnOk result (sys_of state self.new ≡ (run_to (sys_of state self.old) g).ran.sys) }
+        ensures console { OnOk result (Told (Appends (console_of (run_to (sys_of state self.old) g).ran.entries)) (C.taken console.old) (C.taken console.new)) }
+        ensures replay { IsRunReplayed (sys_of state self.old) (run_to (sys_of state self.old) g).ran }
+
+        // A fault of the console leaves the machine after the whole event whose byte was refused.
+        ensures stopped { OnErr result (StopsWithin (sys_of state self.old) g (sys_of state self.new) (C.taken console.old) (C.taken console.new)) }
+        ensures cause { IfErr result (λ f. IsFaultOf f (C.faults console.old) (C.faults console.new) (R.faults _report.old) (R.faults _report.new)) }
+        ensures count { C.faults console.old ≤ C.faults console.new }
+
+        // Nothing is traced yet, so the report takes nothing.
+        ensures report { _report.new ≡ _report.old }
+        ensures machine { IsMachine state self.new }
+    {
+        let mut insts = 0;
+        'run: for events in 0..g.budget {
+            if let Some(reason) = self.reason(&g, events, insts) {
+                return Ok(RunEnd {
+                    reason,
+                    insts,
+                    events,
+                });
+            }
+            self.step(console)?;
+            insts += retired(self.entries());
+        }
+        match self.reason(&g, g.budget, insts) {
+            Some(reason) => Ok(RunEnd {
+                reason,
+                insts,
+                events: g.budget,
+            }),
+            None => unreachable!(),
+        }
+    }
+
+    /// Serves the first pending event, and hands the console its byte.
+    fn step<C: Sink>(&mut self, console: &mut C) -> Result<(), RunFault>
+        requires machine { IsMachine state self.old }
+        requires events { HasEventsLeft (sys_of state self.old) }
+        requires some { IsSome (first (sys_of state self.old).pending) }
+        requires tick { IfSome (first (sys_of state self.old).pending) (λ d. d.tick ≤ TOP) }
+        ensures fired { sys_of state self.new ≡ (fire_first (sys_of state self.old)).sys }
+        ensures entries { entries_of self.new ≡ (fire_first (sys_of state self.old)).entries }
+        ensures console { OnOk result (Told (Appends (console_of (fire_first (sys_of state self.old)).entries)) (C.taken console.old) (C.taken console.new)) }
+        ensures cut { OnErr result (Told (AppendsFront (console_of (fire_first (sys_of state self.old)).entries)) (C.taken console.old) (C.taken console.new)) }
+        ensures fault { IfErr result (λ f. (f ≡ RunFault.Console) × Rose (C.faults console.old) (C.faults console.new)) }
+        ensures count { C.faults console.old ≤ C.faults console.new }
+        ensures machine { IsMachine state self.new }
+    {
+        let byte = self.fire().and_then(|fired| fired.console);
+        match byte {
+            Some(byte) => emit_byte(console, byte),
+            None => Ok(()),
+        }
+    }
+
+    /// Why a run ends after so many events in which so many instructions retired, if it does.
+    fn reason(&self, g: &Goal, events: u64, insts: u64) -> Option<Reason>
+        requires { IsMachine state self.now }
+        ensures { result ≡ reason_for g.now events insts (sys_of state self.now) }
+    {
+        if let Some(code) = self.exited() {
+            return Some(Reason::Exit(code));
+        }
+        if has_retired(g.until, insts) {
+            return Some(Reason::Insts);
+        }
+        match self.queue.peek_tick() {
+            None => Some(Reason::Idle),
+            Some(tick) => late_reason(g, events, tick.get()),
+        }
+    }
+}
+
+/// Hands the console a byte.
+fn emit_byte<C: Sink>(console: &mut C, byte: u8) -> Result<(), RunFault>
+    ensures console { OnOk result (Told (Appends (byte ∷ [])) (C.taken console.old) (C.taken console.new)) }
+    ensures cut { OnErr result (Told (AppendsFront (byte ∷ [])) (C.taken console.old) (C.taken console.new)) }
+    ensures fault { IfErr result (λ f. (f ≡ RunFault.Console) × Rose (C.faults console.old) (C.faults console.new)) }
+    ensures count { C.faults console.old ≤ C.faults console.new }
+{
+    console.emit(&[byte]).map_err(|_| RunFault::Console)
+}
