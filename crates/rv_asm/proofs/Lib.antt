@@ -1,0 +1,14 @@
+pub mod Blanks
+pub mod Digits
+pub mod Encodes
+pub mod Fronts
+pub mod Given
+pub mod Joined
+pub mod Left
+pub mod OperandBack
+pub mod Parts
+pub mod Printed
+pub mod ReadBack
+pub mod Registers
+pub mod RoundTrip
+pub mod Tokens

@@ -1,0 +1,12 @@
+use Rattle.std.proofs.Common.{length, sym, ◌∙◌, arith}
+use Rattle.std.proofs.lemmas.List.Sums.{position_or_len_is}
+use Rattle.rv_asm.specs.Bytes.{is_blank}
+use Rattle.rv_asm.proofs.bytes.place_of_blank.Goals as goal
+
+pub returns-then-is_blank-clause-value : goal.returns-then-is_blank-clause-value
+returns-then-is_blank-clause-value c =
+    sym (position_or_len_is is_blank c.args.text.now c.loop-i.i 0 (omega arith) c.loop-i.invariant (λ _. sym c.is_blank.ensures ∙ c.if-is_blank.true))
+
+pub returns-clause-value : goal.returns-clause-value
+returns-clause-value c =
+    sym (position_or_len_is is_blank c.args.text.now (length c.args.text.now) 0 (omega arith) (λ k lt. c.loop-i.invariant k (omega arith)) (λ lt. absurd (omega arith)))

@@ -1,0 +1,15 @@
+pub mod Bytes
+pub mod Disassembly
+pub mod Faults
+pub mod Forms
+pub mod Instructions
+pub mod Labels
+pub mod Lines
+pub mod Names
+pub mod Numbers
+pub mod Operands
+pub mod Ranges
+pub mod Seen
+pub mod Source
+pub mod Steps
+pub mod Targets
