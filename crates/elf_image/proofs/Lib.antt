@@ -1,0 +1,3 @@
+pub mod RamLaws
+pub mod SegmentLemmas
+pub mod WrittenLaws

@@ -1,0 +1,6 @@
+pub mod Field
+pub mod Header
+pub mod Segment
+pub mod Image
+pub mod Ram
+pub mod Written
