@@ -3,12 +3,15 @@
 #![tactic(auto)]
 
 use gc_outside::{DirStore, StdSink};
-use session::{Status, gemcore};
+use session::Status;
 use std::alloc::AllocError;
 use std::io::ErrorKind;
 use std::process::ExitCode;
 use std::{env, io};
 
+mod call;
+#[cfg(test)]
+mod machine_tests;
 #[cfg(test)]
 mod tests;
 
@@ -28,11 +31,15 @@ fn main(rt: HostRuntime) -> ExitCode {
     let Ok(words) = words_of(&rt) else {
         return ExitCode::from(Status::Memory.code());
     };
-    ExitCode::from(gemcore(
+    let status = call::call(
         rt.alloc(),
         words.as_slice(),
         &mut DirStore::new(&rt),
         &mut StdSink::new(io::writer(&rt)),
         &mut StdSink::new(rt.stderr()),
-    ))
+    );
+    match status {
+        Ok(status) => ExitCode::from(status),
+        Err(_) => ExitCode::from(Status::Memory.code()),
+    }
 }

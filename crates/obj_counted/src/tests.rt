@@ -1,8 +1,8 @@
 // A boxed part whose wakes are counted.
 use crate::Counted;
 use ev_queue::EventQueue;
-use gc_base::{NoMemory, SlotNo, Tick};
-use gm_model::{Answer, Kind, Packet, Params, Wake, Way};
+use gc_base::{NoMemory, ObjId, SlotNo, Tick};
+use gm_model::{Answer, Kind, Own, Packet, Params, Wake, Way};
 use obj_core::{Handles, LineInfo, Outbox, SimObject};
 use rv_step::Arch;
 use std::alloc::Global;
@@ -10,13 +10,13 @@ use std::cell::Cell;
 use std::rc::Rc;
 use std::test::Fail;
 
-/// A part that always finds no memory, so it stays blank.
+/// A part that stays blank. It is configured as a timer, and as another kind it finds no memory.
 #[derive(Drop)]
-struct Unmade {
+struct StaysBlank {
     kind: Kind,
 }
 
-impl SimObject for Unmade {
+impl SimObject for StaysBlank {
     ghost use Rattle.gm_model.specs.ObjState.{Blank};
 
     ghost state = { λ s. Blank s.kind };
@@ -28,10 +28,13 @@ impl SimObject for Unmade {
     fn configure(
         &mut self,
         _alloc: Global,
-        _params: &Params,
+        params: &Params,
         _handles: Handles,
     ) -> Result<(), NoMemory> {
-        Err(NoMemory)
+        match params.own {
+            Own::Timer { .. } => Ok(()),
+            _ => Err(NoMemory),
+        }
     }
 
     #[tactic(auto, unfolding(gm_model::specs::ObjectStep::object_step))]
@@ -105,7 +108,7 @@ impl SimObject for Unmade {
 #[test]
 fn wakes_are_counted_and_parts_can_be_boxed(rt: HostRuntime) -> Result<(), Fail> {
     let wakes = Rc::new(rt.alloc(), Cell::new(0))?;
-    let mut part = Counted::new(Unmade { kind: Kind::Uart }, Rc::clone(&wakes)?);
+    let mut part = Counted::new(StaysBlank { kind: Kind::Uart }, Rc::clone(&wakes)?);
     let mut queue = EventQueue::new(rt.alloc(), &[])?;
     let mut out = Outbox::new(rt.alloc())?;
     let event = Wake::Event { slot: SlotNo(0) };
@@ -119,5 +122,29 @@ fn wakes_are_counted_and_parts_can_be_boxed(rt: HostRuntime) -> Result<(), Fail>
     let boxed: Box<dyn SimObject> = Box::new(rt.alloc(), part)?;
     assert_eq!(rt; boxed.kind(), Kind::Uart);
     assert!(rt; boxed.drained());
+    Ok(())
+}
+
+// No contract tells want of memory from a call that is not passed on.
+#[test]
+fn a_configuration_is_passed_on(rt: HostRuntime) -> Result<(), Fail> {
+    let wakes = Rc::new(rt.alloc(), Cell::new(0))?;
+    let mut part = Counted::new(StaysBlank { kind: Kind::Timer }, wakes);
+    let params = Params {
+        object: ObjId(0),
+        line: 64,
+        ram: 4096,
+        own: Own::Timer {
+            latency: 5,
+            period: 10,
+        },
+    };
+    let handles = Handles {
+        response: Vec::new(rt.alloc()),
+        request: Vec::new(rt.alloc()),
+        device: Vec::new(rt.alloc()),
+        cpu: Vec::new(rt.alloc()),
+    };
+    part.configure(rt.alloc(), &params, handles)?;
     Ok(())
 }

@@ -11,6 +11,9 @@ use gm_model::{Config, Entry};
 use std::alloc::Global;
 use std::marker::Model;
 
+#[cfg(test)]
+mod tests;
+
 /// How often what was noted since a tick, of some objects each, and how many events there were.
 #[derive(Drop)]
 pub struct Counters {

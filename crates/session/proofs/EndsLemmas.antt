@@ -1,49 +1,59 @@
 -- From what a call leaves to what its status says.
-use Rattle.std.proofs.Common.{◌≡◌, ◌==◌, ℕ, zero, suc, ◌+◌, ◌≤◌, ◌⊎◌, inl, inr, List, Bool, true, false, Option, Some, None, if◌then◌else◌, refl, sym, ap, ◌∙◌, subst, arith}
+use Rattle.std.proofs.Common.{◌≡◌, ◌==◌, ℕ, zero, suc, ◌+◌, ◌≤◌, ◌⊎◌, inl, inr, List, [], Bool, true, false, Option, Some, None, if◌then◌else◌, refl, sym, ap, ◌∙◌, subst, arith}
 use Rattle.gc_outside.specs.Store.{Files}
 use Rattle.rv_step.specs.Flat.{flat_step}
 use Rattle.rv_step.specs.Run.{FlatState, flat_run, next_state, is_over, with_step}
 use Rattle.session.specs.Codes.{code_of, AnswersCall}
 use Rattle.session.specs.Ending.{Ending, usage_ending, file_ending}
-use Rattle.session.specs.Leaves.{Outside, StoreFailed, SinkFailed, IsFileOf, RequestCallsFor, CallsFor, image_of, Leaves, EndsAs}
-use Rattle.session.specs.Words.{FlatRequest, flat_request}
+use Rattle.gm_model.specs.ObjState.{ObjState}
+use Rattle.session.specs.Calls.{IsFileOf, RequestCallsFor, RunCallsFor, CallsFor}
+use Rattle.session.specs.Leaves.{Outside, StoreFailed, SinkFailed, Leaves, EndLeaves, FailureLeaves, Ends, RequestEnds, EndsAs}
+use Rattle.session.specs.Words.{FlatRequest, RunRequest, Request, Flat, Machine, flat_request, run_request, either_request, request_of}
 use Rattle.session.specs.declared.status.Status.{Status}
 use Rattle.session.specs.declared.status.Status.TheVariants as status
 
-pub ends-flat : (words : List (List ℕ)) (files : Option Files) (q : FlatRequest) (r : Status) (old new : Outside) → flat_request words ≡ Some q
-    → ((file : Option (List ℕ)) × IsFileOf files q.image file × Leaves r (file_ending q.image q.count file) q.image old new) → EndsAs r words files old new
-unfolding CallsFor
-ends-flat words files q r old new h ends = (
-  file_ending q.image q.count ends.0,
-  subst (λ (o : Option FlatRequest). RequestCallsFor o files (file_ending q.image q.count ends.0)) (sym h) (ends.0, ends.1, refl),
-  subst (λ (o : Option FlatRequest). Leaves r (file_ending q.image q.count ends.0) (image_of o) old new) (sym h) ends.2,
-)
+pub ends-flat : (words : List (List ℕ)) (files : Option Files) (parts : List ObjState) (q : FlatRequest) (r : Status) (old new : Outside) → flat_request words ≡ Some q
+    → ((file : Option (List ℕ)) × IsFileOf files q.image file × Leaves r (file_ending q.image q.count file) q.image old new) → EndsAs r words files parts old new
+unfolding EndsAs
+ends-flat words files parts q r old new h ends =
+    subst (λ (o : Option FlatRequest). RequestEnds r (either_request o (run_request words)) files parts old new) (sym h) ends
 
-pub ends-usage : (words : List (List ℕ)) (files : Option Files) (r : Status) (old new : Outside) → flat_request words ≡ None
-    → Leaves r usage_ending (image_of (flat_request words)) old new → EndsAs r words files old new
-unfolding CallsFor
-ends-usage words files r old new h leaves = (
-  usage_ending,
-  subst (λ (o : Option FlatRequest). RequestCallsFor o files usage_ending) (sym h) refl,
-  leaves,
-)
+pub ends-run : (words : List (List ℕ)) (files : Option Files) (parts : List ObjState) (q : RunRequest) (r : Status) (old new : Outside) → flat_request words ≡ None
+    → run_request words ≡ Some q → Ends (RunCallsFor q files parts) r q old new → EndsAs r words files parts old new
+unfolding EndsAs
+ends-run words files parts q r old new h k ends =
+    subst (λ (o : Option FlatRequest). RequestEnds r (either_request o (run_request words)) files parts old new) (sym h)
+    (subst (λ (o : Option RunRequest). RequestEnds r (either_request None o) files parts old new) (sym k) ends)
+
+pub ends-usage : (words : List (List ℕ)) (files : Option Files) (parts : List ObjState) (r : Status) (old new : Outside) → flat_request words ≡ None
+    → run_request words ≡ None → Leaves r usage_ending [] old new → EndsAs r words files parts old new
+unfolding EndsAs
+ends-usage words files parts r old new h k leaves =
+    subst (λ (o : Option FlatRequest). RequestEnds r (either_request o (run_request words)) files parts old new) (sym h)
+    (subst (λ (o : Option RunRequest). RequestEnds r (either_request None o) files parts old new) (sym k) leaves)
 
 -- the status of a number
 status_of : ℕ → Option Status
 status_of n =
     if n == 0 then Some status.Done
     else if n == 2 then Some status.Usage
+    else if n == 3 then Some status.Config
     else if n == 4 then Some status.Image
+    else if n == 5 then Some status.Script
     else if n == 7 then Some status.File
     else if n == 8 then Some status.Store
     else if n == 9 then Some status.Sink
-    else Some status.Memory
+    else if n == 10 then Some status.Memory
+    else Some status.Part
 
 status_of-code_of : (s : Status) → status_of (code_of s) ≡ Some s
 unfolding status_of
 status_of-code_of status.Done = refl
 status_of-code_of status.Usage = refl
+status_of-code_of status.Config = refl
 status_of-code_of status.Image = refl
+status_of-code_of status.Script = refl
+status_of-code_of status.Part = refl
 status_of-code_of status.File = refl
 status_of-code_of status.Store = refl
 status_of-code_of status.Sink = refl
@@ -53,28 +63,63 @@ code_of-injective : (s t : Status) → code_of s ≡ code_of t → s ≡ t
 code_of-injective s t e =
     let f : Some s ≡ Some t = sym (status_of-code_of s) ∙ ap status_of e ∙ status_of-code_of t in cc
 
-pub ends-at : (s t : Status) (n : ℕ) (words : List (List ℕ)) (files : Option Files) (old new : Outside) → n ≡ code_of s → n ≡ code_of t → EndsAs s words files old new → EndsAs t words files old new
-ends-at s t n words files old new e f ends =
-    subst (λ (x : Status). EndsAs x words files old new) (code_of-injective s t (sym e ∙ f)) ends
+pub ends-at : (s t : Status) (n : ℕ) (words : List (List ℕ)) (files : Option Files) (parts : List ObjState) (old new : Outside) → n ≡ code_of s → n ≡ code_of t
+    → EndsAs s words files parts old new → EndsAs t words files parts old new
+ends-at s t n words files parts old new e f ends =
+    subst (λ (x : Status). EndsAs x words files parts old new) (code_of-injective s t (sym e ∙ f)) ends
 
 -- the number is that of the ending, or of a failure
-answers : (s : Status) (e : Ending) (image : List ℕ) (old new : Outside) → Leaves s e image old new
-    → (code_of s ≡ code_of e.status) ⊎ (((code_of s ≡ 8) × StoreFailed old new) ⊎ (((code_of s ≡ 9) × SinkFailed old new) ⊎ (code_of s ≡ 10)))
-answers status.Done e image old new h = inl (ap code_of (sym h.status))
-answers status.Usage e image old new h = inl (ap code_of (sym h.0.status))
-answers status.Image e image old new h = inl (ap code_of (sym h.0.status))
-answers status.File e image old new h = inl (ap code_of (sym h.0.status))
-answers status.Store e image old new h = inr (inl (refl, h.0))
-answers status.Sink e image old new h = inr (inr (inl (refl, h.0)))
-answers status.Memory e image old new h = inr (inr (inr refl))
+abbrev IsOf : ℕ → (Ending → Type 0) → Outside → Outside → Type 0
+IsOf n Calls old new = ((e : Ending) × Calls e × (n ≡ code_of e.status)) ⊎ (((n ≡ 8) × StoreFailed old new) ⊎ (((n ≡ 9) × SinkFailed old new) ⊎ (n ≡ 10)))
 
-pub answers-call : (s : Status) (n : ℕ) (words : List (List ℕ)) (files : Option Files) (old new : Outside) → n ≡ code_of s → EndsAs s words files old new → AnswersCall n words files old new
-answers-call s n words files old new e ends =
-    let k = answers s ends.0 (image_of (flat_request words)) old new ends.2 in (
-      ends.0,
-      ends.1,
-      subst (λ (m : ℕ). (m ≡ code_of ends.0.status) ⊎ (((m ≡ 8) × StoreFailed old new) ⊎ (((m ≡ 9) × SinkFailed old new) ⊎ (m ≡ 10)))) (sym e) k,
-    )
+of-leaves : (s : Status) (e : Ending) (image : List ℕ) (old new : Outside) (Calls : Ending → Type 0) → Calls e → Leaves s e image old new → IsOf (code_of s) Calls old new
+of-leaves status.Done e image old new C c h = inl (e, c, ap code_of (sym h.status))
+of-leaves status.Usage e image old new C c h = inl (e, c, ap code_of (sym h.0.status))
+of-leaves status.Config e image old new C c h = absurd h
+of-leaves status.Image e image old new C c h = inl (e, c, ap code_of (sym h.0.status))
+of-leaves status.Script e image old new C c h = absurd h
+of-leaves status.File e image old new C c h = inl (e, c, ap code_of (sym h.0.status))
+of-leaves status.Part e image old new C c h = absurd h
+of-leaves status.Store e image old new C c h = inr (inl (refl, h.0))
+of-leaves status.Sink e image old new C c h = inr (inr (inl (refl, h.0)))
+of-leaves status.Memory e image old new C c h = inr (inr (inr refl))
+
+of-end : (s : Status) (e : Ending) (old new : Outside) (Calls : Ending → Type 0) → Calls e → EndLeaves s e old new → IsOf (code_of s) Calls old new
+of-end status.Done e old new C c h = inl (e, c, ap code_of (sym h.status))
+of-end status.Usage e old new C c h = absurd h
+of-end status.Config e old new C c h = inl (e, c, ap code_of (sym h.0.status))
+of-end status.Image e old new C c h = inl (e, c, ap code_of (sym h.0.status))
+of-end status.Script e old new C c h = inl (e, c, ap code_of (sym h.0.status))
+of-end status.File e old new C c h = inl (e, c, ap code_of (sym h.0.status))
+of-end status.Part e old new C c h = inl (e, c, ap code_of (sym h.0.status))
+of-end status.Store e old new C c h = absurd h
+of-end status.Sink e old new C c h = inr (inr (inl (refl, h.0)))
+of-end status.Memory e old new C c h = absurd h
+
+of-failure : (s : Status) (q : RunRequest) (old new : Outside) (Calls : Ending → Type 0) → FailureLeaves s q old new → IsOf (code_of s) Calls old new
+of-failure status.Done q old new C h = absurd h
+of-failure status.Usage q old new C h = absurd h
+of-failure status.Config q old new C h = absurd h
+of-failure status.Image q old new C h = absurd h
+of-failure status.Script q old new C h = absurd h
+of-failure status.File q old new C h = absurd h
+of-failure status.Part q old new C h = absurd h
+of-failure status.Store q old new C h = inr (inl (refl, h.2))
+of-failure status.Sink q old new C h = inr (inr (inl (refl, h.0)))
+of-failure status.Memory q old new C h = inr (inr (inr refl))
+
+of-request : (s : Status) (o : Option Request) (files : Option Files) (parts : List ObjState) (old new : Outside) → RequestEnds s o files parts old new
+    → IsOf (code_of s) (RequestCallsFor o files parts) old new
+of-request s None files parts old new h = of-leaves s usage_ending [] old new (RequestCallsFor None files parts) refl h
+of-request s (Some (Flat q)) files parts old new h = of-leaves s (file_ending q.image q.count h.0) q.image old new (RequestCallsFor (Some (Flat q)) files parts) (h.0, h.1, refl) h.2
+of-request s (Some (Machine q)) files parts old new (inl h) = of-end s h.0 old new (RequestCallsFor (Some (Machine q)) files parts) h.1 h.2
+of-request s (Some (Machine q)) files parts old new (inr h) = of-failure s q old new (RequestCallsFor (Some (Machine q)) files parts) h
+
+pub answers-call : (s : Status) (n : ℕ) (words : List (List ℕ)) (files : Option Files) (parts : List ObjState) (old new : Outside) → n ≡ code_of s → EndsAs s words files parts old new
+    → AnswersCall n words files parts old new
+unfolding EndsAs CallsFor
+answers-call s n words files parts old new e ends =
+    subst (λ (m : ℕ). IsOf m (RequestCallsFor (request_of words) files parts) old new) (sym e) (of-request s (request_of words) files parts old new ends)
 
 next_state-steps : (s : FlatState) → (next_state s).steps ≤ s.steps + 1
 unfolding next_state

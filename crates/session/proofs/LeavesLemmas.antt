@@ -9,7 +9,8 @@ use Rattle.gc_outside.specs.Store.{Files, Answers}
 use Rattle.gc_outside.specs.declared.store.Got.TheVariants.{Bytes, Longer}
 use Rattle.session.specs.Ending.{Ending, refusal, image_limit, image_ending, file_ending, memory_line, store_line}
 use Rattle.session.specs.Names.{shown_name}
-use Rattle.session.specs.Leaves.{IsFileOf, Leaves, seen}
+use Rattle.session.specs.Calls.{IsFileOf}
+use Rattle.session.specs.Leaves.{Leaves, seen}
 use Rattle.session.specs.Refuses.{Refuses}
 use Rattle.session.specs.declared.status.Status.{Status}
 use Rattle.session.specs.declared.status.Status.TheVariants as status
@@ -19,7 +20,10 @@ use Rattle.gc_outside.proofs.Outputs.{told_appends_nothing}
 abbrev pub IsRefusal : Status → Type 0
 IsRefusal status.Done = ⊥
 IsRefusal status.Usage = Unit {0}
+IsRefusal status.Config = ⊥
 IsRefusal status.Image = Unit {0}
+IsRefusal status.Script = ⊥
+IsRefusal status.Part = ⊥
 IsRefusal status.File = Unit {0}
 IsRefusal status.Store = ⊥
 IsRefusal status.Sink = ⊥
@@ -31,6 +35,9 @@ said-refusal : (s : Status) (text image : List ℕ) (c : Option (List ℕ)) (d f
 said-refusal status.Usage text image c d f g old new before now k h = (record { status = refl; console = told_appends_nothing c; report = h }, told_appends_nothing c)
 said-refusal status.Image text image c d f g old new before now k h = (record { status = refl; console = told_appends_nothing c; report = h }, told_appends_nothing c)
 said-refusal status.File text image c d f g old new before now k h = (record { status = refl; console = told_appends_nothing c; report = h }, told_appends_nothing c)
+said-refusal status.Config text image c d f g old new before now k h = absurd k
+said-refusal status.Script text image c d f g old new before now k h = absurd k
+said-refusal status.Part text image c d f g old new before now k h = absurd k
 said-refusal status.Done text image c d f g old new before now k h = absurd k
 said-refusal status.Store text image c d f g old new before now k h = absurd k
 said-refusal status.Sink text image c d f g old new before now k h = absurd k

@@ -1,3 +1,6 @@
 pub mod RunLemmas
 pub mod LeavesLemmas
 pub mod EndsLemmas
+pub mod ScriptLemmas
+pub mod MachineLemmas
+pub mod ReplayLemmas

@@ -4,8 +4,10 @@ use Rattle.gc_outside.specs.Faults.{Rose}
 use Rattle.gc_outside.specs.Told.{Told}
 use Rattle.gc_outside.specs.Sink.{Appends, AppendsFront}
 use Rattle.gc_outside.specs.Store.{Files}
+use Rattle.gm_model.specs.ObjState.{ObjState}
+use Rattle.session.specs.Calls.{IsFileOf, RunCallsFor}
 use Rattle.session.specs.Ending.{Ending, usage_ending, file_ending, store_line, memory_line}
-use Rattle.session.specs.Words.{FlatRequest, flat_request}
+use Rattle.session.specs.Words.{Request, Flat, Machine, RunRequest, request_of}
 use Rattle.session.specs.declared.status.Status.{Status}
 use Rattle.session.specs.declared.status.Status.TheVariants as status
 
@@ -25,26 +27,6 @@ seen store_faults console console_faults report report_faults = record {
   report = report;
   report_faults = report_faults;
 }
-
--- the file of this name is this one, or is absent, where the store tells its files
-abbrev pub IsFileOf : Option Files → List ℕ → Option (List ℕ) → Type 0
-IsFileOf None name file = Unit {0}
-IsFileOf (Some files) name file = file ≡ files name
-
--- the request calls for this ending, the file being the store's own where it tells it; no request calls for the usage
-abbrev pub RequestCallsFor : Option FlatRequest → Option Files → Ending → Type 0
-RequestCallsFor None files e = e ≡ usage_ending
-RequestCallsFor (Some request) files e =
-    (file : Option (List ℕ)) × IsFileOf files request.image file × (e ≡ file_ending request.image request.count file)
-
--- the words call for this ending
-unfoldable pub CallsFor : List (List ℕ) → Option Files → Ending → Type 0
-CallsFor words files e = RequestCallsFor (flat_request words) files e
-
--- the name of the image that a request names
-abbrev pub image_of : Option FlatRequest → List ℕ
-image_of None = []
-image_of (Some request) = request.image
 
 -- the store failed
 abbrev pub StoreFailed : Outside → Outside → Type 0
@@ -85,17 +67,66 @@ FailedSinkLeaves e image old new =
     ⊎ ((StoreFailed old new × IsSilent old new × SaysFront (store_line image) old new)
     ⊎ (IsSilent old new × SaysFront memory_line old new))
 
--- what a call leaves that answers this status, where this ending is called for and the image has this name
+-- what a call over flat memory leaves that answers this status, where this ending is called for and the image has this name
 abbrev pub Leaves : Status → Ending → List ℕ → Outside → Outside → Type 0
 Leaves status.Done e image old new = IsWritten status.Done e old new
 Leaves status.Usage e image old new = IsWritten status.Usage e old new × IsSilent old new
+Leaves status.Config e image old new = ⊥
 Leaves status.Image e image old new = IsWritten status.Image e old new × IsSilent old new
+Leaves status.Script e image old new = ⊥
+Leaves status.Part e image old new = ⊥
 Leaves status.File e image old new = IsWritten status.File e old new × IsSilent old new
 Leaves status.Store e image old new = StoreFailed old new × IsSilent old new × Says (store_line image) old new
 Leaves status.Sink e image old new = SinkFailed old new × FailedSinkLeaves e image old new
 Leaves status.Memory e image old new = IsSilent old new × Says memory_line old new
 
+-- the name is one of a request's files
+abbrev pub IsNameOf : RunRequest → List ℕ → Type 0
+IsNameOf q name = (name ≡ q.config) ⊎ ((name ≡ q.script) ⊎ (name ≡ q.image))
+
+-- the console and the report took a front of their bytes
+abbrev pub IsCut : Ending → Outside → Outside → Type 0
+IsCut e old new = Told (AppendsFront e.console) old.console new.console × SaysFront e.report old new
+
+-- what a call that runs a machine leaves, where it comes to an ending or a sink failed on the way to it
+abbrev pub EndLeaves : Status → Ending → Outside → Outside → Type 0
+EndLeaves status.Done e old new = IsWritten status.Done e old new
+EndLeaves status.Config e old new = IsWritten status.Config e old new × IsSilent old new
+EndLeaves status.Image e old new = IsWritten status.Image e old new × IsSilent old new
+EndLeaves status.Script e old new = IsWritten status.Script e old new × IsSilent old new
+EndLeaves status.File e old new = IsWritten status.File e old new × IsSilent old new
+EndLeaves status.Part e old new = IsWritten status.Part e old new × IsSilent old new
+EndLeaves status.Sink e old new = SinkFailed old new × IsCut e old new
+EndLeaves status.Usage e old new = ⊥
+EndLeaves status.Store e old new = ⊥
+EndLeaves status.Memory e old new = ⊥
+
+-- what it leaves where the store failed or memory was not found: a line, or a front of it where the report failed then
+abbrev pub FailureLeaves : Status → RunRequest → Outside → Outside → Type 0
+FailureLeaves status.Store q old new = (name : List ℕ) × IsNameOf q name × StoreFailed old new × IsSilent old new × Says (store_line name) old new
+FailureLeaves status.Memory q old new = IsSilent old new × Says memory_line old new
+FailureLeaves status.Sink q old new =
+    SinkFailed old new × IsSilent old new
+    × (((name : List ℕ) × IsNameOf q name × StoreFailed old new × SaysFront (store_line name) old new) ⊎ SaysFront memory_line old new)
+FailureLeaves status.Done q old new = ⊥
+FailureLeaves status.Usage q old new = ⊥
+FailureLeaves status.Config q old new = ⊥
+FailureLeaves status.Image q old new = ⊥
+FailureLeaves status.Script q old new = ⊥
+FailureLeaves status.File q old new = ⊥
+FailureLeaves status.Part q old new = ⊥
+
+-- the call comes to an ending for which this is so, or the store or memory failed
+abbrev pub Ends : (Ending → Type 0) → Status → RunRequest → Outside → Outside → Type 0
+Ends Calls s q old new = ((e : Ending) × Calls e × EndLeaves s e old new) ⊎ FailureLeaves s q old new
+
+-- the request's call answers this status, and leaves what it says of an ending that the request calls for
+abbrev pub RequestEnds : Status → Option Request → Option Files → List ObjState → Outside → Outside → Type 0
+RequestEnds s None files parts old new = Leaves s usage_ending [] old new
+RequestEnds s (Some (Flat q)) files parts old new =
+    (file : Option (List ℕ)) × IsFileOf files q.image file × Leaves s (file_ending q.image q.count file) q.image old new
+RequestEnds s (Some (Machine q)) files parts old new = Ends (RunCallsFor q files parts) s q old new
+
 -- the call answers this status, and leaves what it says of an ending that the words call for
-abbrev pub EndsAs : Status → List (List ℕ) → Option Files → Outside → Outside → Type 0
-EndsAs s words files old new =
-    (e : Ending) × CallsFor words files e × Leaves s e (image_of (flat_request words)) old new
+unfoldable pub EndsAs : Status → List (List ℕ) → Option Files → List ObjState → Outside → Outside → Type 0
+EndsAs s words files parts old new = RequestEnds s (request_of words) files parts old new

@@ -4,6 +4,22 @@ pub mod Words
 pub mod Run
 pub mod Report
 pub mod Ending
+pub mod Named
+pub mod Script
+pub mod Sinks
+pub mod Calls
+pub mod Fetched
+pub mod Refused
 pub mod Leaves
+pub mod Replayed
 pub mod Refuses
 pub mod Codes
+pub use Rattle.cfg_tree.specs.Reading
+pub use Rattle.cfg_tree.specs.Valid
+pub use Rattle.gm_model.specs.ObjState
+pub use Rattle.gm_model.specs.Replay
+pub use Rattle.gm_model.specs.Run as MachineRun
+pub use Rattle.gm_model.specs.Start
+pub use Rattle.gm_model.specs.View
+pub use Rattle.kernel.specs.Build
+pub use Rattle.kernel.specs.Shown

@@ -30,3 +30,28 @@ flat_request (form ∷ image ∷ count ∷ []) =
     then option_map (λ n. record { image = image; count = n }) (allowed_count (spelled_number count))
     else None
 flat_request _ = None
+
+-- what the words `run CONFIG IMAGE SCRIPT` name: three files
+pub record RunRequest : Type 0 where
+  pub config : List ℕ
+  pub image : List ℕ
+  pub script : List ℕ
+
+-- the words are `run` and three names
+abbrev pub run_request : List (List ℕ) → Option RunRequest
+run_request (form ∷ config ∷ image ∷ script ∷ []) =
+    if pointwise nat_eq form (codes "run") then Some (record { config = config; image = image; script = script }) else None
+run_request _ = None
+
+-- what the words ask for: a run over flat memory, or one of the machine
+pub data Request : Type 0 where
+  Flat : FlatRequest → Request
+  Machine : RunRequest → Request
+
+-- the words ask for the one or the other, or for nothing
+abbrev pub either_request : Option FlatRequest → Option RunRequest → Option Request
+either_request (Some q) other = Some (Flat q)
+either_request None other = option_map Machine other
+
+abbrev pub request_of : List (List ℕ) → Option Request
+request_of words = either_request (flat_request words) (run_request words)

@@ -2,7 +2,8 @@
 ghost use Rattle.std.specs.Prelude.{◌≡◌, ℕ, List, [], Option, nat_eq};
 ghost use Rattle.std.specs.List.{starts_with};
 ghost use Rattle.session.specs.Ending.{elf_mark, image_ending, file_ending, run_ending};
-ghost use Rattle.session.specs.Leaves.{IsFileOf, Leaves, seen};
+ghost use Rattle.session.specs.Calls.{IsFileOf};
+ghost use Rattle.session.specs.Leaves.{Leaves, seen};
 ghost use Rattle.session.specs.Run.{state_with};
 ghost use Rattle.rv_step.specs.Run.{flat_run};
 
@@ -16,7 +17,7 @@ use gc_outside::{GetError, Got, Sink, Store};
 use std::alloc::Global;
 
 /// Whether a file is an ELF image.
-fn is_elf(file: &[u8]) -> bool
+pub(crate) fn is_elf(file: &[u8]) -> bool
     ensures { result ≡ starts_with nat_eq file.now elf_mark }
 {
     file.starts_with(b"\x7fELF")

@@ -6,7 +6,12 @@
 //! It opens no file and prints nothing by itself: that is the program's, in gc_cli.
 #![tactic(auto)]
 
+mod boot;
+mod carry_out;
+mod fetch;
 mod flat;
+mod machine;
+mod refuse_text;
 mod registers;
 mod report;
 mod run;

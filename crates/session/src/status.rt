@@ -8,8 +8,12 @@ pub enum Status {
     Done = 0,
     /// The words are none of the forms.
     Usage = 2,
+    /// The configuration is refused.
+    Config = 3,
     /// The image is refused.
     Image = 4,
+    /// A line of the script is refused.
+    Script = 5,
     /// A file is absent, or longer than its limit.
     File = 7,
     /// The store failed.
@@ -18,6 +22,8 @@ pub enum Status {
     Sink = 9,
     /// Memory could not be had.
     Memory = 10,
+    /// There are too few parts of a kind.
+    Part = 11,
 }
 
 impl Status {

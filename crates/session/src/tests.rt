@@ -244,6 +244,7 @@ fn calls_write_what_the_rules_say(rt: HostRuntime) -> Result<(), Fail> {
         let status = gemcore(
             rt.alloc(),
             words.as_slice(),
+            Vec::new(rt.alloc()),
             &mut store,
             &mut console,
             &mut report,
@@ -276,6 +277,7 @@ fn long_images_are_refused(rt: HostRuntime) -> Result<(), Fail> {
         let answer = gemcore(
             rt.alloc(),
             words.as_slice(),
+            Vec::new(rt.alloc()),
             &mut store,
             &mut console,
             &mut report,
@@ -301,6 +303,7 @@ fn a_long_name_is_said_whole(rt: HostRuntime) -> Result<(), Fail> {
     let status = gemcore(
         rt.alloc(),
         words.as_slice(),
+        Vec::new(rt.alloc()),
         &mut store,
         &mut console,
         &mut report,
@@ -333,6 +336,7 @@ fn run_with_faults(
     let answer = gemcore(
         rt.alloc(),
         words.as_slice(),
+        Vec::new(rt.alloc()),
         &mut store,
         &mut console,
         &mut report,
@@ -391,6 +395,116 @@ fn a_failing_call_leaves_a_prefix(rt: HostRuntime) -> Result<(), Fail> {
         ),
     ] {
         run_with_faults(&rt, faults, left)?;
+    }
+    Ok(())
+}
+
+/// A configuration whose last section, `exit`, has these lines.
+macro_rules! config_with {
+    ($lines:literal) => {
+        concat!(
+            "[system]\nline = 16\nmodel = \"atomic\"\nram = 65536\nbudget = 1000000\n[cpu]\nperiod = 1000\n",
+            "[corebus]\nlatency = 100\n[membus]\nlatency = 100\n[mem]\nlatency = 500\nqueue = 1\n[uart]\nlatency = 200\n",
+            "chartime = 1000\n[timer]\nlatency = 200\nperiod = 100\n[exit]\n",
+            $lines
+        )
+    };
+}
+
+/// The files of calls of `run`, by their names.
+fn run_files(rt: &(impl Abort + AllocGlobal)) -> Result<MemStore, NoMemory> {
+    let mut store = MemStore::new(rt.alloc(), 200_000)?;
+    let full = zeros(rt.alloc(), 65_536)?;
+    let long = zeros(rt.alloc(), 65_537)?;
+    for (name, file) in [
+        ("a", config_with!("latency = 50\n").as_bytes()),
+        ("unfinished", config_with!("").as_bytes()),
+        (
+            "unknown",
+            config_with!("latency = 50\nspeed = 1\n").as_bytes(),
+        ),
+        ("value", config_with!("latency = 0\n").as_bytes()),
+        ("shape", config_with!("latency = 50\n[cache2]\n").as_bytes()),
+        ("text", b"[system".as_slice()),
+        ("script", b"# all of it\n\nrun end\nregs\n".as_slice()),
+        ("third", b"run end\nregs\nrun  end\n".as_slice()),
+        ("image", STORE_AND_EXIT.as_slice()),
+        ("elf", ELF.as_slice()),
+        ("full", full.as_slice()),
+        ("long", long.as_slice()),
+    ] {
+        assert!(rt; store.add(name, file));
+    }
+    Ok(store)
+}
+
+/// Calls of `run` that are refused, in the order in which it looks at what it is given.
+static RUN_REFUSALS: [(&str, u8, &[u8]); 15] = [
+    ("run|none|none|none", 7, b"file none absent\n"),
+    ("run|long|none|none", 7, b"file long long\n"),
+    ("run|text|none|none", 3, b"config text\n"),
+    ("run|unknown|none|none", 3, b"config unknown exit.speed\n"),
+    (
+        "run|unfinished|none|none",
+        3,
+        b"config missing exit.latency\n",
+    ),
+    ("run|value|none|none", 3, b"config value exit.latency\n"),
+    ("run|shape|none|none", 3, b"config shape cache2\n"),
+    ("run|a|none|absent", 7, b"file absent absent\n"),
+    ("run|a|none|long", 7, b"file long long\n"),
+    ("run|a|none|third", 5, b"script line 3\n"),
+    ("run|a|none|script", 7, b"file none absent\n"),
+    ("run|a|elf|script", 4, b"image header\n"),
+    ("run|a|long|script", 4, b"image raw\n"),
+    ("run|a|full|script", 11, b"part atomic\n"),
+    ("run|a|image|script|x", 2, b"usage\n"),
+];
+
+#[test]
+fn the_first_refusal_of_a_run_is_said(rt: HostRuntime) -> Result<(), Fail> {
+    let mut store = run_files(&rt)?;
+    for (text, status, line) in &RUN_REFUSALS {
+        let words = words_of(rt.alloc(), text)?;
+        let mut console = MemSink::new(rt.alloc(), 100)?;
+        let mut report = MemSink::new(rt.alloc(), 100)?;
+        let answer = gemcore(
+            rt.alloc(),
+            words.as_slice(),
+            Vec::new(rt.alloc()),
+            &mut store,
+            &mut console,
+            &mut report,
+        );
+        assert_eq!(rt; answer, *status);
+        assert_eq!(rt; console.bytes(), [].as_slice());
+        assert_eq!(rt; report.bytes(), *line);
+    }
+    Ok(())
+}
+
+#[test]
+fn a_store_that_fails_is_said_with_its_file(rt: HostRuntime) -> Result<(), Fail> {
+    for (call, line) in [
+        (0, b"store a\n".as_slice()),
+        (1, b"store script\n".as_slice()),
+        (2, b"store image\n".as_slice()),
+    ] {
+        let mut store = run_files(&rt)?;
+        assert!(rt; store.fail_at(call));
+        let words = words_of(rt.alloc(), "run|a|image|script")?;
+        let mut console = MemSink::new(rt.alloc(), 100)?;
+        let mut report = MemSink::new(rt.alloc(), 100)?;
+        let answer = gemcore(
+            rt.alloc(),
+            words.as_slice(),
+            Vec::new(rt.alloc()),
+            &mut store,
+            &mut console,
+            &mut report,
+        );
+        assert_eq!(rt; answer, 8);
+        assert_eq!(rt; report.bytes(), line);
     }
     Ok(())
 }

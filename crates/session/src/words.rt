@@ -1,6 +1,7 @@
 // The words of the command line.
 ghost use Rattle.std.specs.Prelude.{◌≡◌, List, ℕ, map, Some, None, MatchOption, string_bytes};
-ghost use Rattle.session.specs.Words.{allowed_count, spelled_number, flat_request};
+ghost use Rattle.session.specs.Words.{allowed_count, spelled_number, flat_request, run_request};
+ghost use Rattle.session.specs.Named.{request_named};
 
 use gc_text::read_dec;
 
@@ -38,6 +39,30 @@ impl<'a> FlatWords<'a> {
                 }),
                 None => None,
             },
+            _ => None,
+        }
+    }
+}
+
+/// What the words `run CONFIG IMAGE SCRIPT` name: three files.
+#[derive(Clone, Copy)]
+pub struct RunWords<'a> {
+    pub config: &'a str,
+    pub image: &'a str,
+    pub script: &'a str,
+}
+
+impl<'a> RunWords<'a> {
+    /// The words after the program's name, where they are `run` and three names.
+    pub fn read(words: &'a [String]) -> Option<RunWords<'a>>
+        ensures { MatchOption result (run_request (map string_bytes words.now) ≡ None) (λ w. run_request (map string_bytes words.now) ≡ Some (request_named w)) }
+    {
+        match words {
+            [form, config, image, script] if form.as_str() == "run" => Some(RunWords {
+                config: config.as_str(),
+                image: image.as_str(),
+                script: script.as_str(),
+            }),
             _ => None,
         }
     }

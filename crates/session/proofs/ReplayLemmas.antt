@@ -1,0 +1,115 @@
+-- What a script's events note, replayed from the machine's start.
+use Rattle.std.proofs.Common.{◌≡◌, ℕ, zero, suc, ◌≤◌, refl, sym, ap, ◌∙◌, subst, arith, false, Bool, List, [], ◌∷◌, length, replicate, slice_get, Option, Some, None}
+use Rattle.std.proofs.lemmas.List.{length-replicate}
+use Rattle.ev_queue.specs.declared.due.Due.{Due}
+use Rattle.ev_queue.specs.PendingList.{first}
+use Rattle.rv_step.specs.FlatMem.{ram_base}
+use Rattle.cfg_tree.specs.Valid.{IsValidConfig}
+use Rattle.cfg_tree.specs.declared.config.Config.{Config}
+use Rattle.gm_model.specs.AtomicMachine.{IsAtomicMachine, IsRunReplayed}
+use Rattle.gm_model.specs.Deliver.{Item, Sent, Done, Delivery, deliver_first, deliver_wake, deliver_atomic, deliver_line, deliver}
+use Rattle.gm_model.specs.Fire.{Ran, fire, fire_event, fire_due, timed_run, taken_out}
+use Rattle.gm_model.specs.Platform.{platform}
+use Rattle.gm_model.specs.Replay.{replay}
+use Rattle.gm_model.specs.Router.{Route, destination}
+use Rattle.gm_model.specs.Run.{run_to}
+use Rattle.gm_model.specs.Sound.{given_table}
+use Rattle.gm_model.specs.Start.{start_state, with_raw}
+use Rattle.gm_model.specs.Sys.{Sys, active_cpu}
+use Rattle.gm_model.specs.View.{program_state, own_ram}
+use Rattle.gm_model.specs.declared.act.Act.TheVariants as acts
+use Rattle.gm_model.specs.declared.goal.Goal.{Goal}
+use Rattle.gm_model.specs.declared.wake.Wake.TheVariants as wakes
+use Rattle.gm_model.proofs.ReplayLemmas.{replay-append}
+use Rattle.gm_model.proofs.ReplayRuns.{runs_replayed}
+use Rattle.gm_model.proofs.RunEnds.{runs_end}
+use Rattle.gm_model.proofs.Started.{put_size, starts_sound}
+use Rattle.session.specs.Replayed.{ScriptsAreReplayed}
+use Rattle.session.specs.Script.{Written, stop_written, script_written, machine_start}
+use Rattle.stop_script.specs.declared.stop.Stop.{Stop}
+use Rattle.stop_script.specs.declared.stop.Stop.TheVariants as stops
+
+-- no delivery changes the router
+router_first : (d : Delivery) (items : List Item) → (deliver_first d items).sys.router ≡ d.sys.router
+router_first d [] = refl
+router_first d (Sent j (acts.Offer port p) ∷ is) = refl
+router_first d (Sent j (acts.CallRetry port) ∷ is) = refl
+router_first d (Sent j (acts.SetLine bit level) ∷ is) = by_cpu (active_cpu d.sys.objects) where
+  by_cpu : (o : Option ℕ) → (deliver_line (record d { items = is }) j (wakes.Line bit level) o).sys.router ≡ d.sys.router
+  by_cpu None = refl
+  by_cpu (Some i) = refl
+router_first d (Sent j (acts.Atomic port p) ∷ is) = by_route (destination d.sys.router.routes p.addr) where
+  by_route : (o : Option ℕ) → (deliver_atomic (record d { items = is }) j p o).sys.router ≡ d.sys.router
+  by_route None = refl
+  by_route (Some i) = refl
+router_first d (Done j p latency ∷ is) = refl
+
+router_deliver : (n : ℕ) (d : Delivery) → (deliver n d).sys.router ≡ d.sys.router
+unfolding deliver
+router_deliver zero d = refl
+router_deliver (suc n) d = router_deliver n (deliver_first d d.items) ∙ router_first d d.items
+
+router_fire : (s : Sys) (n t : ℕ) (o : Option Due) → (fire_event s n t o).sys.router ≡ s.router
+router_fire s n t None = refl
+router_fire s n t (Some e) = router_deliver 256 (deliver_wake (record { sys = taken_out s n t; items = []; entries = [] }) e.owner.0 (wakes.Event e.slot))
+
+router_due : (s : Sys) (o : Option Due) → (fire_due s o).sys.router ≡ s.router
+unfolding fire
+router_due s None = refl
+router_due s (Some e) = router_fire s 0 e.tick (slice_get s.pending 0)
+
+router_run : (s : Sys) (n : ℕ) → (timed_run s n).sys.router ≡ s.router
+unfolding timed_run
+router_run s zero = refl
+router_run s (suc n) = router_due (timed_run s n).sys (first (timed_run s n).sys.pending) ∙ router_run s n
+
+-- what was noted on the way to w is replayed from s on, and the machine is still one in atomic mode
+record IsWrittenReplayed (s : Sys) (w : Written) : Type 0 where
+  machine : IsAtomicMachine w.sys []
+  router : w.sys.router ≡ s.router
+  replays : replay s.router.routes (program_state s []) w.history ≡ Some (program_state w.sys [])
+
+ran_replayed : (s : Sys) (r : Ran) (n : ℕ) → r ≡ timed_run s n → IsAtomicMachine s [] → IsRunReplayed s r × (r.sys.router ≡ s.router)
+ran_replayed s r n e h =
+    let P : Ran → Type 0 = λ x. IsRunReplayed s x × (x.sys.router ≡ s.router) in
+    subst P (sym e) (runs_replayed.run s n h, router_run s n)
+
+stop_replayed : (budget : ℕ) (s : Sys) (x : Stop) → IsAtomicMachine s [] → IsWrittenReplayed s (stop_written budget s x)
+unfolding replay
+stop_replayed budget s (stops.Run until) h =
+    let g : Goal = record { until = until; budget = budget } in
+    let e = runs_end.run s g in
+    let k = ran_replayed s (run_to s g).ran (run_to s g).events e.ran h in
+    record { machine = k.0.machine; router = k.1; replays = k.0.replays }
+stop_replayed budget s stops.Regs h = record { machine = h; router = refl; replays = refl }
+
+script_replayed : (budget : ℕ) (s : Sys) (xs : List Stop) → IsAtomicMachine s [] → IsWrittenReplayed s (script_written budget s xs)
+unfolding script_written replay
+script_replayed budget s [] h = record { machine = h; router = refl; replays = refl }
+script_replayed budget s (x ∷ xs) h =
+    let a : Written = stop_written budget s x in
+    let b : Written = script_written budget a.sys xs in
+    let k = stop_replayed budget s x h in
+    let l = script_replayed budget a.sys xs k.machine in
+    let P : List Route → Type 0 = λ rs. replay rs (program_state a.sys []) b.history ≡ Some (program_state b.sys []) in
+    record {
+      machine = l.machine;
+      router = l.router ∙ k.router;
+      replays = replay-append s.router.routes _ (program_state a.sys []) a.history b.history k.replays ∙ subst P (ap (λ o. o.routes) k.router) l.replays;
+    }
+
+-- RAM at the start has its configured size
+pub start_ram : (c : Config) → c.system_model ≡ false → length (own_ram (start_state c ram_base []).objects) ≡ c.system_ram
+start_ram c e =
+    let P : Bool → Type 0 = λ b. length (own_ram (start_state (record c { system_model = b }) ram_base []).objects) ≡ c.system_ram in
+    let long = length-replicate c.system_ram (let z : ℕ = 0 in z) in
+    subst P (sym e) (put_size (replicate c.system_ram 0) 0 [] (omega (arith, long)) ∙ long)
+
+start_atomic : (c : Config) (image : List ℕ) → IsValidConfig c → c.system_model ≡ false → length image ≤ c.system_ram → IsAtomicMachine (machine_start c image) []
+start_atomic c image v e l =
+    let begun = starts_sound.start c ram_base v e in
+    let put = starts_sound.put (start_state c ram_base []) (given_table 0 (platform c)) ram_base image begun (omega (arith, l, start_ram c e)) in
+    (starts_sound.resumed (with_raw ram_base image (start_state c ram_base [])) (given_table 0 (platform c)) put).machine
+
+pub scripts_replayed : ScriptsAreReplayed
+scripts_replayed c image xs v e l = (script_replayed c.system_budget (machine_start c image) xs (start_atomic c image v e l)).replays
