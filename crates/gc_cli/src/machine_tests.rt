@@ -9,7 +9,7 @@ ghost use Rattle.kernel.specs.Build.{AreBlank};
 ghost use Rattle.kernel.specs.Shown.{sys_of, sys_seen, IsMachine, IsSeen};
 
 use crate::call::tests::{CONFIG, files, words};
-use cfg_tree::{CacheConfig, Caches, Config, DmaConfig};
+use cfg_tree::{Caches, Config, DmaConfig};
 use cpu_atomic::AtomicCpu;
 use gc_base::{NoMemory, ObjId};
 use gc_outside::MemSink;
@@ -353,23 +353,6 @@ fn timing_config(alloc: Global) -> Config
     c
 }
 
-/// The same machine with a cache.
-fn cached_config(alloc: Global) -> Result<Config, NoMemory>
-    ensures { IfOk result (λ c. IsValidConfig c) }
-{
-    let cache = CacheConfig {
-        sets: 1,
-        ways: 1,
-        mshrs: 1,
-        targets: 1,
-        writeq: 1,
-        latency: 1,
-    };
-    let mut c = small_config(alloc);
-    c.caches = Caches::new(vec![in alloc; cache]?);
-    Ok(c)
-}
-
 /// The same machine with a DMA engine.
 fn dma_config(alloc: Global) -> Config
     ensures { IsValidConfig result }
@@ -387,12 +370,6 @@ fn dma_config(alloc: Global) -> Config
 fn a_part_that_is_not_there_yet_is_named(rt: HostRuntime) -> Result<(), Fail> {
     let c = timing_config(rt.alloc());
     let kind = Kind::TimingCpu;
-    assert_eq!(rt;
-        fault_without(rt.alloc(), &c, None)?,
-        Some(BuildFault::Part { kind })
-    );
-    let c = cached_config(rt.alloc())?;
-    let kind = Kind::Cache;
     assert_eq!(rt;
         fault_without(rt.alloc(), &c, None)?,
         Some(BuildFault::Part { kind })
