@@ -6,3 +6,4 @@ pub mod Delivered
 pub mod Changes
 pub mod Runs
 pub mod Picks
+pub mod Loads

@@ -3,6 +3,7 @@ pub mod Router
 pub mod Build
 pub mod Ready
 pub mod Ends
+pub mod Load
 pub use Rattle.ev_queue.specs.PendingList
 pub use Rattle.ev_queue.specs.Queue
 pub use Rattle.ev_queue.specs.SlotTable
@@ -28,3 +29,5 @@ pub use Rattle.gc_outside.specs.Told
 pub use Rattle.gc_outside.specs.Sink
 pub use Rattle.gc_outside.specs.Faults
 pub use Rattle.probe_stats.specs.Counted
+pub use Rattle.elf_image.specs.Image
+pub use Rattle.elf_image.specs.Ram

@@ -12,6 +12,7 @@ mod build_fault;
 mod deliver;
 mod entries;
 mod item;
+mod load;
 mod machine;
 mod pick;
 mod reason;

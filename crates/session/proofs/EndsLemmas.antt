@@ -6,31 +6,71 @@ use Rattle.rv_step.specs.Run.{FlatState, flat_run, next_state, is_over, with_ste
 use Rattle.session.specs.Codes.{code_of, AnswersCall}
 use Rattle.session.specs.Ending.{Ending, usage_ending, file_ending}
 use Rattle.gm_model.specs.ObjState.{ObjState}
-use Rattle.session.specs.Calls.{IsFileOf, RequestCallsFor, RunCallsFor, CallsFor}
-use Rattle.session.specs.Leaves.{Outside, StoreFailed, SinkFailed, Leaves, EndLeaves, FailureLeaves, Ends, RequestEnds, EndsAs}
-use Rattle.session.specs.Words.{FlatRequest, RunRequest, Request, Flat, Machine, flat_request, run_request, either_request, request_of}
+use Rattle.session.specs.Calls.{IsFileOf, RequestCallsFor, RunCallsFor, AssemblyCallsFor, CallsFor}
+use Rattle.session.specs.Leaves.{Outside, StoreFailed, SinkFailed, Leaves, EndLeaves, FailureLeaves, Ends, run_names, assembly_names, RequestEnds, EndsAs}
+use Rattle.session.specs.Puts.{Kept, kept, AssemblyPuts, RequestPuts, Puts}
+use Rattle.session.specs.Words.{FlatRequest, RunRequest, AssemblyRequest, Request, Flat, Machine, Assembly, flat_request, run_request, assembly_request, any_request, request_of}
 use Rattle.session.specs.declared.status.Status.{Status}
 use Rattle.session.specs.declared.status.Status.TheVariants as status
+
+-- what is so of a request that the words ask for is so of the words
+module _ (words : List (List ℕ)) (P : Option Request → Type 0) where
+  asked-flat : (q : FlatRequest) → flat_request words ≡ Some q → P (Some (Flat q)) → P (request_of words)
+  asked-flat q h p = (let Q : Option FlatRequest → Type 0 = λ o. P (any_request o (run_request words) (assembly_request words)) in subst Q (sym h) p)
+
+  not_flat : flat_request words ≡ None → P (any_request None (run_request words) (assembly_request words)) → P (request_of words)
+  not_flat h p = (let Q : Option FlatRequest → Type 0 = λ o. P (any_request o (run_request words) (assembly_request words)) in subst Q (sym h) p)
+
+  asked-run : (q : RunRequest) → flat_request words ≡ None → run_request words ≡ Some q → P (Some (Machine q)) → P (request_of words)
+  asked-run q h k p = not_flat h (let Q : Option RunRequest → Type 0 = λ o. P (any_request None o (assembly_request words)) in subst Q (sym k) p)
+
+  asked-last : (o : Option AssemblyRequest) → flat_request words ≡ None → run_request words ≡ None → assembly_request words ≡ o → P (any_request None None o) → P (request_of words)
+  asked-last o h k l p =
+      not_flat h
+      (let Q : Option RunRequest → Type 0 = λ x. P (any_request None x (assembly_request words)) in
+      let R : Option AssemblyRequest → Type 0 = λ x. P (any_request None None x) in
+      subst Q (sym k) (subst R (sym l) p))
 
 pub ends-flat : (words : List (List ℕ)) (files : Option Files) (parts : List ObjState) (q : FlatRequest) (r : Status) (old new : Outside) → flat_request words ≡ Some q
     → ((file : Option (List ℕ)) × IsFileOf files q.image file × Leaves r (file_ending q.image q.count file) q.image old new) → EndsAs r words files parts old new
 unfolding EndsAs
-ends-flat words files parts q r old new h ends =
-    subst (λ (o : Option FlatRequest). RequestEnds r (either_request o (run_request words)) files parts old new) (sym h) ends
+ends-flat words files parts q r old new h ends = asked-flat words (λ o. RequestEnds r o files parts old new) q h ends
 
 pub ends-run : (words : List (List ℕ)) (files : Option Files) (parts : List ObjState) (q : RunRequest) (r : Status) (old new : Outside) → flat_request words ≡ None
-    → run_request words ≡ Some q → Ends (RunCallsFor q files parts) r q old new → EndsAs r words files parts old new
+    → run_request words ≡ Some q → Ends (RunCallsFor q files parts) r (run_names q) old new → EndsAs r words files parts old new
 unfolding EndsAs
-ends-run words files parts q r old new h k ends =
-    subst (λ (o : Option FlatRequest). RequestEnds r (either_request o (run_request words)) files parts old new) (sym h)
-    (subst (λ (o : Option RunRequest). RequestEnds r (either_request None o) files parts old new) (sym k) ends)
+ends-run words files parts q r old new h k ends = asked-run words (λ o. RequestEnds r o files parts old new) q h k ends
+
+pub ends-assembly : (words : List (List ℕ)) (files : Option Files) (parts : List ObjState) (q : AssemblyRequest) (r : Status) (old new : Outside) → flat_request words ≡ None
+    → run_request words ≡ None → assembly_request words ≡ Some q → Ends (AssemblyCallsFor q files) r (assembly_names q) old new → EndsAs r words files parts old new
+unfolding EndsAs
+ends-assembly words files parts q r old new h k l ends = asked-last words (λ o. RequestEnds r o files parts old new) (Some q) h k l ends
 
 pub ends-usage : (words : List (List ℕ)) (files : Option Files) (parts : List ObjState) (r : Status) (old new : Outside) → flat_request words ≡ None
-    → run_request words ≡ None → Leaves r usage_ending [] old new → EndsAs r words files parts old new
+    → run_request words ≡ None → assembly_request words ≡ None → Leaves r usage_ending [] old new → EndsAs r words files parts old new
 unfolding EndsAs
-ends-usage words files parts r old new h k leaves =
-    subst (λ (o : Option FlatRequest). RequestEnds r (either_request o (run_request words)) files parts old new) (sym h)
-    (subst (λ (o : Option RunRequest). RequestEnds r (either_request None o) files parts old new) (sym k) leaves)
+ends-usage words files parts r old new h k l leaves = asked-last words (λ o. RequestEnds r o files parts old new) None h k l leaves
+
+pub kept-same : (files files' : Option Files) (put put' : Option (List ℕ)) → files' ≡ files → put' ≡ put → kept files' put' ≡ kept files put
+kept-same files files' put put' e f = ap (λ (x : Option Files). kept x put') e ∙ ap (λ (x : Option (List ℕ)). kept files x) f
+
+-- no other words but those of `asm` put a file
+pub puts-flat : (words : List (List ℕ)) (q : FlatRequest) (r : Status) (old new : Kept) → flat_request words ≡ Some q → new ≡ old → Puts r words old new
+unfolding Puts
+puts-flat words q r old new h e = asked-flat words (λ o. RequestPuts r o old new) q h e
+
+pub puts-run : (words : List (List ℕ)) (q : RunRequest) (r : Status) (old new : Kept) → flat_request words ≡ None → run_request words ≡ Some q → new ≡ old → Puts r words old new
+unfolding Puts
+puts-run words q r old new h k e = asked-run words (λ o. RequestPuts r o old new) q h k e
+
+pub puts-assembly : (words : List (List ℕ)) (q : AssemblyRequest) (r : Status) (old new : Kept) → flat_request words ≡ None → run_request words ≡ None → assembly_request words ≡ Some q
+    → AssemblyPuts r q old new → Puts r words old new
+unfolding Puts
+puts-assembly words q r old new h k l puts = asked-last words (λ o. RequestPuts r o old new) (Some q) h k l puts
+
+pub puts-nothing : (words : List (List ℕ)) (r : Status) (old new : Kept) → flat_request words ≡ None → run_request words ≡ None → assembly_request words ≡ None → new ≡ old → Puts r words old new
+unfolding Puts
+puts-nothing words r old new h k l e = asked-last words (λ o. RequestPuts r o old new) None h k l e
 
 -- the status of a number
 status_of : ℕ → Option Status
@@ -44,7 +84,8 @@ status_of n =
     else if n == 8 then Some status.Store
     else if n == 9 then Some status.Sink
     else if n == 10 then Some status.Memory
-    else Some status.Part
+    else if n == 11 then Some status.Part
+    else Some status.Source
 
 status_of-code_of : (s : Status) → status_of (code_of s) ≡ Some s
 unfolding status_of
@@ -54,6 +95,7 @@ status_of-code_of status.Config = refl
 status_of-code_of status.Image = refl
 status_of-code_of status.Script = refl
 status_of-code_of status.Part = refl
+status_of-code_of status.Source = refl
 status_of-code_of status.File = refl
 status_of-code_of status.Store = refl
 status_of-code_of status.Sink = refl
@@ -80,6 +122,7 @@ of-leaves status.Image e image old new C c h = inl (e, c, ap code_of (sym h.0.st
 of-leaves status.Script e image old new C c h = absurd h
 of-leaves status.File e image old new C c h = inl (e, c, ap code_of (sym h.0.status))
 of-leaves status.Part e image old new C c h = absurd h
+of-leaves status.Source e image old new C c h = absurd h
 of-leaves status.Store e image old new C c h = inr (inl (refl, h.0))
 of-leaves status.Sink e image old new C c h = inr (inr (inl (refl, h.0)))
 of-leaves status.Memory e image old new C c h = inr (inr (inr refl))
@@ -92,28 +135,35 @@ of-end status.Image e old new C c h = inl (e, c, ap code_of (sym h.0.status))
 of-end status.Script e old new C c h = inl (e, c, ap code_of (sym h.0.status))
 of-end status.File e old new C c h = inl (e, c, ap code_of (sym h.0.status))
 of-end status.Part e old new C c h = inl (e, c, ap code_of (sym h.0.status))
+of-end status.Source e old new C c h = inl (e, c, ap code_of (sym h.0.status))
 of-end status.Store e old new C c h = absurd h
 of-end status.Sink e old new C c h = inr (inr (inl (refl, h.0)))
 of-end status.Memory e old new C c h = absurd h
 
-of-failure : (s : Status) (q : RunRequest) (old new : Outside) (Calls : Ending → Type 0) → FailureLeaves s q old new → IsOf (code_of s) Calls old new
-of-failure status.Done q old new C h = absurd h
-of-failure status.Usage q old new C h = absurd h
-of-failure status.Config q old new C h = absurd h
-of-failure status.Image q old new C h = absurd h
-of-failure status.Script q old new C h = absurd h
-of-failure status.File q old new C h = absurd h
-of-failure status.Part q old new C h = absurd h
-of-failure status.Store q old new C h = inr (inl (refl, h.2))
-of-failure status.Sink q old new C h = inr (inr (inl (refl, h.0)))
-of-failure status.Memory q old new C h = inr (inr (inr refl))
+of-failure : (s : Status) (names : List (List ℕ)) (old new : Outside) (Calls : Ending → Type 0) → FailureLeaves s names old new → IsOf (code_of s) Calls old new
+of-failure status.Done names old new C h = absurd h
+of-failure status.Usage names old new C h = absurd h
+of-failure status.Config names old new C h = absurd h
+of-failure status.Image names old new C h = absurd h
+of-failure status.Script names old new C h = absurd h
+of-failure status.File names old new C h = absurd h
+of-failure status.Part names old new C h = absurd h
+of-failure status.Source names old new C h = absurd h
+of-failure status.Store names old new C h = inr (inl (refl, h.2))
+of-failure status.Sink names old new C h = inr (inr (inl (refl, h.0)))
+of-failure status.Memory names old new C h = inr (inr (inr refl))
 
 of-request : (s : Status) (o : Option Request) (files : Option Files) (parts : List ObjState) (old new : Outside) → RequestEnds s o files parts old new
     → IsOf (code_of s) (RequestCallsFor o files parts) old new
 of-request s None files parts old new h = of-leaves s usage_ending [] old new (RequestCallsFor None files parts) refl h
 of-request s (Some (Flat q)) files parts old new h = of-leaves s (file_ending q.image q.count h.0) q.image old new (RequestCallsFor (Some (Flat q)) files parts) (h.0, h.1, refl) h.2
 of-request s (Some (Machine q)) files parts old new (inl h) = of-end s h.0 old new (RequestCallsFor (Some (Machine q)) files parts) h.1 h.2
-of-request s (Some (Machine q)) files parts old new (inr h) = of-failure s q old new (RequestCallsFor (Some (Machine q)) files parts) h
+of-request s (Some (Machine q)) files parts old new (inr h) = of-failure s (run_names q) old new (RequestCallsFor (Some (Machine q)) files parts) h
+of-request s (Some (Assembly q)) files parts old new (inl h) = of-end s h.0 old new (RequestCallsFor (Some (Assembly q)) files parts) h.1 h.2
+of-request s (Some (Assembly q)) files parts old new (inr h) = of-failure s (assembly_names q) old new (RequestCallsFor (Some (Assembly q)) files parts) h
+
+pub puts-at : (s t : Status) (n : ℕ) (words : List (List ℕ)) (old new : Kept) → n ≡ code_of s → n ≡ code_of t → Puts s words old new → Puts t words old new
+puts-at s t n words old new e f puts = subst (λ (x : Status). Puts x words old new) (code_of-injective s t (sym e ∙ f)) puts
 
 pub answers-call : (s : Status) (n : ℕ) (words : List (List ℕ)) (files : Option Files) (parts : List ObjState) (old new : Outside) → n ≡ code_of s → EndsAs s words files parts old new
     → AnswersCall n words files parts old new

@@ -1,5 +1,5 @@
 -- What each way to end a call leaves.
-use Rattle.std.proofs.Common.{◌≡◌, ℕ, zero, suc, ◌<◌, ◌≤◌, inl, inr, List, [], ◌∷◌, ◌++◌, length, true, false, Option, Some, None, refl, sym, subst, arith, nat_lt}
+use Rattle.std.proofs.Common.{◌≡◌, ◌≢◌, ℕ, zero, suc, ◌<◌, ◌≤◌, inl, inr, List, [], ◌∷◌, ◌++◌, length, true, false, Option, Some, None, refl, sym, subst, arith, nat_lt}
 use Rattle.std.specs.Prelude.{codes, IsSomeAnd}
 use Rattle.std.proofs.lemmas.Bool.Decides.{nat_tests}
 use Rattle.gc_outside.specs.Faults.{Rose}
@@ -7,7 +7,10 @@ use Rattle.gc_outside.specs.Told.{Told}
 use Rattle.gc_outside.specs.Sink.{Appends}
 use Rattle.gc_outside.specs.Store.{Files, Answers}
 use Rattle.gc_outside.specs.declared.store.Got.TheVariants.{Bytes, Longer}
-use Rattle.session.specs.Ending.{Ending, refusal, image_limit, image_ending, file_ending, memory_line, store_line}
+use Rattle.elf_image.specs.declared.fault.ElfFault.{ElfFault}
+use Rattle.elf_image.specs.declared.fault.ElfFault.TheVariants as images
+use Rattle.session.specs.Refused.{image_status}
+use Rattle.session.specs.Ending.{Ending, refusal, image_text, image_limit, image_ending, file_ending, memory_line, store_line}
 use Rattle.session.specs.Names.{shown_name}
 use Rattle.session.specs.Calls.{IsFileOf}
 use Rattle.session.specs.Leaves.{Leaves, seen}
@@ -24,6 +27,7 @@ IsRefusal status.Config = ⊥
 IsRefusal status.Image = Unit {0}
 IsRefusal status.Script = ⊥
 IsRefusal status.Part = ⊥
+IsRefusal status.Source = ⊥
 IsRefusal status.File = Unit {0}
 IsRefusal status.Store = ⊥
 IsRefusal status.Sink = ⊥
@@ -38,6 +42,7 @@ said-refusal status.File text image c d f g old new before now k h = (record { s
 said-refusal status.Config text image c d f g old new before now k h = absurd k
 said-refusal status.Script text image c d f g old new before now k h = absurd k
 said-refusal status.Part text image c d f g old new before now k h = absurd k
+said-refusal status.Source text image c d f g old new before now k h = absurd k
 said-refusal status.Done text image c d f g old new before now k h = absurd k
 said-refusal status.Store text image c d f g old new before now k h = absurd k
 said-refusal status.Sink text image c d f g old new before now k h = absurd k
@@ -65,6 +70,25 @@ leaves-store r e image c d f g old new before now rose (inl h) =
     subst (λ (x : Status). Leaves x e image (seen f c d old before) (seen g c d new now)) (sym h.0) (rose, told_appends_nothing c, h.1)
 leaves-store r e image c d f g old new before now rose (inr h) =
     subst (λ (x : Status). Leaves x e image (seen f c d old before) (seen g c d new now)) (sym h.0) (inr h.2, inr (inl (rose, told_appends_nothing c, h.1)))
+
+-- the line on a faulty image, or on memory where it was not found while the image was read
+pub leaves-image : (fault : ElfFault) (r : Status) (e : Ending) (image : List ℕ) (c : Option (List ℕ)) (d f g : ℕ) (old new : Option (List ℕ)) (before now : ℕ)
+    → (fault ≢ images.NoMemory → e ≡ refusal status.Image (image_text fault)) → Refuses (image_status fault) (image_text fault ++ 10 ∷ []) r old new before now
+    → Leaves r e image (seen f c d old before) (seen g c d new now)
+leaves-image fault r e image c d f g old new before now is h = by_fault fault is h where
+  told : (k : ElfFault) → e ≡ refusal status.Image (image_text k) → Refuses status.Image (image_text k ++ 10 ∷ []) r old new before now → Leaves r e image (seen f c d old before) (seen g c d new now)
+  told k s j = subst (λ (x : Ending). Leaves r x image (seen f c d old before) (seen g c d new now)) (sym s) (leaves-refusal status.Image r (image_text k) image c d f g old new before now tt j)
+
+  by_fault : (k : ElfFault) → (k ≢ images.NoMemory → e ≡ refusal status.Image (image_text k)) → Refuses (image_status k) (image_text k ++ 10 ∷ []) r old new before now
+      → Leaves r e image (seen f c d old before) (seen g c d new now)
+  by_fault images.Raw s j = told images.Raw (s (λ x. cc)) j
+  by_fault images.Header s j = told images.Header (s (λ x. cc)) j
+  by_fault images.Class s j = told images.Class (s (λ x. cc)) j
+  by_fault images.Order s j = told images.Order (s (λ x. cc)) j
+  by_fault images.Kind s j = told images.Kind (s (λ x. cc)) j
+  by_fault images.Machine s j = told images.Machine (s (λ x. cc)) j
+  by_fault (images.Segment i) s j = told (images.Segment i) (s (λ x. cc)) j
+  by_fault images.NoMemory s j = leaves-memory r e image c d f g old new before now j
 
 -- some list is longer than n
 pub longer_than : (n : ℕ) → (xs : List ℕ) × (n < length xs)

@@ -4,3 +4,5 @@ pub mod EndsLemmas
 pub mod ScriptLemmas
 pub mod MachineLemmas
 pub mod ReplayLemmas
+pub mod PutLemmas
+pub mod SourceLemmas

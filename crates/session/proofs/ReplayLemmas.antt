@@ -1,29 +1,26 @@
 -- What a script's events note, replayed from the machine's start.
-use Rattle.std.proofs.Common.{◌≡◌, ℕ, zero, suc, ◌≤◌, refl, sym, ap, ◌∙◌, subst, arith, false, Bool, List, [], ◌∷◌, length, replicate, slice_get, Option, Some, None}
-use Rattle.std.proofs.lemmas.List.{length-replicate}
+use Rattle.std.proofs.Common.{◌≡◌, ℕ, zero, suc, refl, sym, ap, ◌∙◌, subst, false, All, List, [], ◌∷◌, slice_get, Option, Some, None}
 use Rattle.ev_queue.specs.declared.due.Due.{Due}
 use Rattle.ev_queue.specs.PendingList.{first}
-use Rattle.rv_step.specs.FlatMem.{ram_base}
-use Rattle.cfg_tree.specs.Valid.{IsValidConfig}
 use Rattle.cfg_tree.specs.declared.config.Config.{Config}
+use Rattle.elf_image.proofs.RamLaws.{length-ram_of}
+use Rattle.elf_image.specs.Image.{LiesInRam}
+use Rattle.elf_image.specs.Ram.{ram_of}
+use Rattle.elf_image.specs.declared.image.Image.{Image}
 use Rattle.gm_model.specs.AtomicMachine.{IsAtomicMachine, IsRunReplayed}
 use Rattle.gm_model.specs.Deliver.{Item, Sent, Done, Delivery, deliver_first, deliver_wake, deliver_atomic, deliver_line, deliver}
 use Rattle.gm_model.specs.Fire.{Ran, fire, fire_event, fire_due, timed_run, taken_out}
-use Rattle.gm_model.specs.Platform.{platform}
 use Rattle.gm_model.specs.Replay.{replay}
 use Rattle.gm_model.specs.Router.{Route, destination}
 use Rattle.gm_model.specs.Run.{run_to}
-use Rattle.gm_model.specs.Sound.{given_table}
-use Rattle.gm_model.specs.Start.{start_state, with_raw}
 use Rattle.gm_model.specs.Sys.{Sys, active_cpu}
-use Rattle.gm_model.specs.View.{program_state, own_ram}
+use Rattle.gm_model.specs.View.{program_state}
 use Rattle.gm_model.specs.declared.act.Act.TheVariants as acts
 use Rattle.gm_model.specs.declared.goal.Goal.{Goal}
 use Rattle.gm_model.specs.declared.wake.Wake.TheVariants as wakes
 use Rattle.gm_model.proofs.ReplayLemmas.{replay-append}
 use Rattle.gm_model.proofs.ReplayRuns.{runs_replayed}
 use Rattle.gm_model.proofs.RunEnds.{runs_end}
-use Rattle.gm_model.proofs.Started.{put_size, starts_sound}
 use Rattle.session.specs.Replayed.{ScriptsAreReplayed}
 use Rattle.session.specs.Script.{Written, stop_written, script_written, machine_start}
 use Rattle.stop_script.specs.declared.stop.Stop.{Stop}
@@ -98,18 +95,8 @@ script_replayed budget s (x ∷ xs) h =
       replays = replay-append s.router.routes _ (program_state a.sys []) a.history b.history k.replays ∙ subst P (ap (λ o. o.routes) k.router) l.replays;
     }
 
--- RAM at the start has its configured size
-pub start_ram : (c : Config) → c.system_model ≡ false → length (own_ram (start_state c ram_base []).objects) ≡ c.system_ram
-start_ram c e =
-    let P : Bool → Type 0 = λ b. length (own_ram (start_state (record c { system_model = b }) ram_base []).objects) ≡ c.system_ram in
-    let long = length-replicate c.system_ram (let z : ℕ = 0 in z) in
-    subst P (sym e) (put_size (replicate c.system_ram 0) 0 [] (omega (arith, long)) ∙ long)
-
-start_atomic : (c : Config) (image : List ℕ) → IsValidConfig c → c.system_model ≡ false → length image ≤ c.system_ram → IsAtomicMachine (machine_start c image) []
-start_atomic c image v e l =
-    let begun = starts_sound.start c ram_base v e in
-    let put = starts_sound.put (start_state c ram_base []) (given_table 0 (platform c)) ram_base image begun (omega (arith, l, start_ram c e)) in
-    (starts_sound.resumed (with_raw ram_base image (start_state c ram_base [])) (given_table 0 (platform c)) put).machine
+start_atomic : (c : Config) (image : Image) → c.system_model ≡ false → All (LiesInRam c.system_ram) image.pieces → IsAtomicMachine (machine_start c image) []
+start_atomic c image e fits = runs_replayed.start c image.entry (ram_of image c.system_ram) e (length-ram_of image c.system_ram fits)
 
 pub scripts_replayed : ScriptsAreReplayed
-scripts_replayed c image xs v e l = (script_replayed c.system_budget (machine_start c image) xs (start_atomic c image v e l)).replays
+scripts_replayed c image xs v e fits = (script_replayed c.system_budget (machine_start c image) xs (start_atomic c image e fits)).replays

@@ -1,9 +1,15 @@
 -- A run in progress beside the run that the rules define.
-use Rattle.std.proofs.Common.{◌≡◌, ℕ, ◌+◌, ◌<◌, ◌≤◌, List, [], ◌++◌, true, false, Option, Some, None, refl, sym, ap, ◌∙◌, subst, arith, append-nil, option_to_list}
+use Rattle.std.proofs.Common.{◌≡◌, ℕ, ◌+◌, ◌<◌, ◌≤◌, List, [], ◌++◌, fold, replicate, true, false, Option, Some, None, refl, sym, ap, ◌∙◌, subst, arith, append-nil, option_to_list}
 use Rattle.rv_step.specs.Run.{FlatState, IsFront, flat_run, next_state, is_over, console_with}
 use Rattle.rv_step.proofs.Runs.{begins, goes_on, flat_run-stays, flat_run-grows}
 use Rattle.gc_outside.specs.Emits.{Emits}
-use Rattle.session.specs.Run.{state_with}
+use Rattle.elf_image.specs.Ram.{ram_of, with_piece}
+use Rattle.elf_image.specs.declared.image.Image.{Image}
+use Rattle.elf_image.specs.declared.piece.Piece.{Piece}
+use Rattle.rv_step.specs.Arch.{reset}
+use Rattle.rv_step.specs.FlatMem.{zeroed}
+use Rattle.rv_step.specs.declared.arch.Arch.{Arch}
+use Rattle.session.specs.Run.{state_with, flat_size, flat_start}
 use Rattle.session.specs.declared.run.FlatRun.{FlatRun}
 use Rattle.gc_outside.proofs.Emissions.{emits_nothing, emits_then, emits_cut}
 
@@ -59,3 +65,20 @@ pub follows-over : (start : FlatState) (r : FlatRun) (n : ℕ) (old new : Option
     → is_over (state_with r []) ≡ true → flat_run start r.steps ≡ flat_run start n
 follows-over start r n old new f g follows le over =
     sym (flat_run-stays start r.steps n le (ap is_over (sym follows.same) ∙ over))
+
+-- a run that makes its first step from here on
+abbrev loaded_with : Arch → List ℕ → FlatState
+loaded_with arch m = record { arch = arch; ram = m; console = []; exit = None; steps = 0 }
+
+zeroed_is : (n : ℕ) → zeroed n ≡ replicate n 0
+unfolding zeroed
+zeroed_is n = refl
+
+-- RAM with the pieces of an image, and the hart at its entry, are the start of its run
+pub loaded_start : (image : Image) (arch : Arch) (m m' : List ℕ) (pieces : List Piece) → arch ≡ reset image.entry → m ≡ zeroed flat_size → pieces ≡ image.pieces → m' ≡ fold with_piece m pieces
+    → loaded_with arch m' ≡ flat_start image
+loaded_start image arch m m' pieces a z p l =
+    let P : List Piece → Type 0 = λ ps. m' ≡ fold with_piece m ps in
+    let Q : List ℕ → Type 0 = λ x. m' ≡ fold with_piece x image.pieces in
+    let all : m' ≡ ram_of image flat_size = subst Q (z ∙ zeroed_is flat_size) (subst P p l) in
+    ap (λ (x : Arch). loaded_with x m') a ∙ ap (λ (x : List ℕ). loaded_with (reset image.entry) x) all

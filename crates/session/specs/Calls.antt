@@ -1,20 +1,24 @@
 -- What words and files call for. Source: this project's own rule.
-use Rattle.std.specs.Prelude.{◌≡◌, ℕ, ◌<◌, ◌≤◌, ◌⊎◌, nat_eq, nat_lt, if◌then◌else◌, List, ◌++◌, length, Option, Some, None, Result, Ok, Err, codes, decimal}
-use Rattle.std.specs.List.{starts_with}
+use Rattle.std.specs.Prelude.{◌≡◌, ℕ, ◌<◌, ◌≤◌, ◌⊎◌, List, [], ◌++◌, length, Option, Some, None, Result, Ok, Err, codes, decimal}
 use Rattle.cfg_tree.specs.Reading.{IsCause, ParsesConfig}
 use Rattle.cfg_tree.specs.declared.config.Config.{Config}
 use Rattle.cfg_tree.specs.declared.fault.CfgFault.{CfgFault}
 use Rattle.cfg_tree.specs.declared.fault.CfgFault.TheVariants as faults
+use Rattle.elf_image.specs.Image.{image_of}
+use Rattle.elf_image.specs.declared.fault.ElfFault.{ElfFault}
+use Rattle.elf_image.specs.declared.image.Image.{Image}
 use Rattle.gc_outside.specs.Store.{Files}
 use Rattle.gm_model.specs.Kind.{kind_name}
 use Rattle.gm_model.specs.ObjState.{ObjState}
 use Rattle.gm_model.specs.declared.kind.Kind.{Kind}
 use Rattle.kernel.specs.Build.{lacking}
-use Rattle.session.specs.Ending.{Ending, refusal, usage_ending, elf_mark, file_ending, image_limit}
+use Rattle.session.specs.Ending.{Ending, refusal, usage_ending, file_ending, image_limit, image_text}
 use Rattle.session.specs.Names.{shown_name}
 use Rattle.session.specs.Script.{Written, script_written, machine_start}
-use Rattle.session.specs.Words.{Request, Flat, Machine, RunRequest, request_of}
+use Rattle.session.specs.Sources.{source_limit, source_words, source_line_text}
+use Rattle.session.specs.Words.{Request, Flat, Machine, Assembly, RunRequest, AssemblyRequest, request_of}
 use Rattle.session.specs.declared.status.Status.TheVariants as status
+use Rattle.rv_asm.specs.declared.fault.AsmFault.{AsmFault}
 use Rattle.stop_script.specs.Script.{stops_of}
 use Rattle.stop_script.specs.declared.stop.Stop.{Stop}
 
@@ -68,16 +72,18 @@ abbrev pub written_ending : Written → Ending
 written_ending w = record { status = status.Done; console = w.console; report = w.report }
 
 -- the machine runs, unless there are too few parts of a kind
-abbrev pub parts_ending : Config → List Stop → List ℕ → Option Kind → Ending
+abbrev pub parts_ending : Config → List Stop → Image → Option Kind → Ending
 parts_ending c stops image (Some kind) = refusal status.Part (codes "part " ++ kind_name kind)
 parts_ending c stops image None = written_ending (script_written c.system_budget (machine_start c image) stops)
 
--- the image is loaded; an ELF image, and one that is longer than RAM, is refused
+-- an image is loaded, and a faulty one is refused
+abbrev pub loaded_ending : Config → List Stop → List ObjState → Result Image ElfFault → Ending
+loaded_ending c stops parts (Ok image) = parts_ending c stops image (lacking c parts)
+loaded_ending c stops parts (Err fault) = refusal status.Image (image_text fault)
+
+-- what the image's bytes call for: they say an image that RAM holds, or have a fault
 abbrev pub boot_ending : Config → List Stop → List ObjState → List ℕ → Ending
-boot_ending c stops parts image =
-    if starts_with nat_eq image elf_mark then refusal status.Image (codes "image header")
-    else if nat_lt c.system_ram (length image) then refusal status.Image (codes "image raw")
-    else parts_ending c stops image (lacking c parts)
+boot_ending c stops parts file = loaded_ending c stops parts (image_of file c.system_ram)
 
 -- what the image's file calls for
 abbrev pub ImageFileCallsFor : RunRequest → Option Files → List ObjState → Config → List Stop → Ending → Type 0
@@ -97,12 +103,31 @@ RunCallsFor q files parts e =
     (file : Option (List ℕ)) × IsFileOf files q.config file
     × FileCallsFor q.config text_limit file (λ text f. ConfigCallsFor text (λ c g. ScriptFileCallsFor q files parts c g) f) e
 
+-- the work is done, and nothing is written of it
+abbrev pub silent_ending : Ending
+silent_ending = record { status = status.Done; console = []; report = [] }
+
+abbrev pub IsDone : Ending → Type 0
+IsDone e = e ≡ silent_ending
+
+-- what a source calls for: its words are put, or its first faulty line is told
+abbrev pub source_ending : Result (List ℕ) AsmFault → Ending
+source_ending (Ok words) = silent_ending
+source_ending (Err fault) = refusal status.Source (source_line_text fault)
+
+-- what `asm` calls for: its source's file is refused, or the source calls for it
+abbrev pub AssemblyCallsFor : AssemblyRequest → Option Files → Ending → Type 0
+AssemblyCallsFor q files e =
+    (file : Option (List ℕ)) × IsFileOf files q.source file
+    × FileCallsFor q.source source_limit file (λ text f. f ≡ source_ending (source_words text)) e
+
 -- what a request calls for; no request calls for the usage
 abbrev pub RequestCallsFor : Option Request → Option Files → List ObjState → Ending → Type 0
 RequestCallsFor None files parts e = e ≡ usage_ending
 RequestCallsFor (Some (Flat q)) files parts e =
     (file : Option (List ℕ)) × IsFileOf files q.image file × (e ≡ file_ending q.image q.count file)
 RequestCallsFor (Some (Machine q)) files parts e = RunCallsFor q files parts e
+RequestCallsFor (Some (Assembly q)) files parts e = AssemblyCallsFor q files e
 
 -- the words call for this ending
 unfoldable pub CallsFor : List (List ℕ) → Option Files → List ObjState → Ending → Type 0

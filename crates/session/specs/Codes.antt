@@ -19,6 +19,7 @@ code_of status.Store = 8
 code_of status.Sink = 9
 code_of status.Memory = 10
 code_of status.Part = 11
+code_of status.Source = 12
 
 -- the number is that of an ending that the words call for, unless a call to the outside failed or memory was not found
 abbrev pub AnswersCall : ℕ → List (List ℕ) → Option Files → List ObjState → Outside → Outside → Type 0

@@ -1,6 +1,9 @@
 -- How a call ends: what its words and its files call for. Source: this project's own rule.
-use Rattle.std.specs.Prelude.{ℕ, nat_eq, nat_lt, if◌then◌else◌, List, [], ◌∷◌, ◌++◌, length, Option, Some, None, codes}
-use Rattle.std.specs.List.{starts_with}
+use Rattle.std.specs.Prelude.{ℕ, nat_lt, if◌then◌else◌, List, [], ◌∷◌, ◌++◌, length, Option, Some, None, Result, Ok, Err, codes, decimal}
+use Rattle.elf_image.specs.Image.{image_of}
+use Rattle.elf_image.specs.declared.fault.ElfFault.{ElfFault}
+use Rattle.elf_image.specs.declared.fault.ElfFault.TheVariants as faults
+use Rattle.elf_image.specs.declared.image.Image.{Image}
 use Rattle.rv_step.specs.Run.{FlatState, flat_run}
 use Rattle.session.specs.Names.{shown_name}
 use Rattle.session.specs.Report.{flat_report}
@@ -26,20 +29,29 @@ usage_ending = refusal status.Usage (codes "usage")
 abbrev pub image_limit : ℕ
 image_limit = 33554432
 
--- the first bytes of an ELF file
-abbrev pub elf_mark : List ℕ
-elf_mark = 0x7f ∷ 0x45 ∷ 0x4c ∷ 0x46 ∷ []
+-- the line on a faulty image
+abbrev pub image_text : ElfFault → List ℕ
+image_text faults.Raw = codes "image raw"
+image_text faults.Header = codes "image header"
+image_text faults.Class = codes "image class"
+image_text faults.Order = codes "image order"
+image_text faults.Kind = codes "image kind"
+image_text faults.Machine = codes "image machine"
+image_text (faults.Segment index) = codes "image segment " ++ decimal index
+image_text faults.NoMemory = codes "memory"
 
 -- a run that ended so
 abbrev pub run_ending : FlatState → Ending
 run_ending s = record { status = status.Done; console = s.console; report = flat_report s }
 
--- a raw image runs; an ELF image, and one that is longer than flat memory, is refused
+-- an image runs, and a faulty one is refused
+abbrev pub flat_ending : ℕ → Result Image ElfFault → Ending
+flat_ending count (Ok image) = run_ending (flat_run (flat_start image) count)
+flat_ending count (Err fault) = refusal status.Image (image_text fault)
+
+-- what an image's file calls for: it says an image that flat memory holds, or has a fault
 abbrev pub image_ending : ℕ → List ℕ → Ending
-image_ending count image =
-    if starts_with nat_eq image elf_mark then refusal status.Image (codes "image header")
-    else if nat_lt flat_size (length image) then refusal status.Image (codes "image raw")
-    else run_ending (flat_run (flat_start image) count)
+image_ending count file = flat_ending count (image_of file flat_size)
 
 -- the image's file is there or not
 abbrev pub file_ending : List ℕ → ℕ → Option (List ℕ) → Ending

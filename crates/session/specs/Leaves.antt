@@ -1,13 +1,13 @@
 -- What a call leaves behind at each status. Source: this project's own rule.
-use Rattle.std.specs.Prelude.{◌≡◌, ℕ, ◌⊎◌, List, [], Option, Some, None}
+use Rattle.std.specs.Prelude.{◌≡◌, ℕ, ◌⊎◌, List, [], ◌∷◌, Option, Some, None}
 use Rattle.gc_outside.specs.Faults.{Rose}
 use Rattle.gc_outside.specs.Told.{Told}
 use Rattle.gc_outside.specs.Sink.{Appends, AppendsFront}
 use Rattle.gc_outside.specs.Store.{Files}
 use Rattle.gm_model.specs.ObjState.{ObjState}
-use Rattle.session.specs.Calls.{IsFileOf, RunCallsFor}
+use Rattle.session.specs.Calls.{IsFileOf, RunCallsFor, AssemblyCallsFor}
 use Rattle.session.specs.Ending.{Ending, usage_ending, file_ending, store_line, memory_line}
-use Rattle.session.specs.Words.{Request, Flat, Machine, RunRequest, request_of}
+use Rattle.session.specs.Words.{Request, Flat, Machine, Assembly, RunRequest, AssemblyRequest, request_of}
 use Rattle.session.specs.declared.status.Status.{Status}
 use Rattle.session.specs.declared.status.Status.TheVariants as status
 
@@ -75,20 +75,29 @@ Leaves status.Config e image old new = ⊥
 Leaves status.Image e image old new = IsWritten status.Image e old new × IsSilent old new
 Leaves status.Script e image old new = ⊥
 Leaves status.Part e image old new = ⊥
+Leaves status.Source e image old new = ⊥
 Leaves status.File e image old new = IsWritten status.File e old new × IsSilent old new
 Leaves status.Store e image old new = StoreFailed old new × IsSilent old new × Says (store_line image) old new
 Leaves status.Sink e image old new = SinkFailed old new × FailedSinkLeaves e image old new
 Leaves status.Memory e image old new = IsSilent old new × Says memory_line old new
 
--- the name is one of a request's files
-abbrev pub IsNameOf : RunRequest → List ℕ → Type 0
-IsNameOf q name = (name ≡ q.config) ⊎ ((name ≡ q.script) ⊎ (name ≡ q.image))
+-- the names of a request's files
+abbrev pub run_names : RunRequest → List (List ℕ)
+run_names q = q.config ∷ q.script ∷ q.image ∷ []
+
+abbrev pub assembly_names : AssemblyRequest → List (List ℕ)
+assembly_names q = q.source ∷ q.image ∷ []
+
+-- the name is one of these
+abbrev pub IsOneOf : List (List ℕ) → List ℕ → Type 0
+IsOneOf [] name = ⊥
+IsOneOf (x ∷ xs) name = (name ≡ x) ⊎ IsOneOf xs name
 
 -- the console and the report took a front of their bytes
 abbrev pub IsCut : Ending → Outside → Outside → Type 0
 IsCut e old new = Told (AppendsFront e.console) old.console new.console × SaysFront e.report old new
 
--- what a call that runs a machine leaves, where it comes to an ending or a sink failed on the way to it
+-- what a call that runs a machine, or assembles, leaves, where it comes to an ending or a sink failed on the way to it
 abbrev pub EndLeaves : Status → Ending → Outside → Outside → Type 0
 EndLeaves status.Done e old new = IsWritten status.Done e old new
 EndLeaves status.Config e old new = IsWritten status.Config e old new × IsSilent old new
@@ -96,36 +105,40 @@ EndLeaves status.Image e old new = IsWritten status.Image e old new × IsSilent 
 EndLeaves status.Script e old new = IsWritten status.Script e old new × IsSilent old new
 EndLeaves status.File e old new = IsWritten status.File e old new × IsSilent old new
 EndLeaves status.Part e old new = IsWritten status.Part e old new × IsSilent old new
+EndLeaves status.Source e old new = IsWritten status.Source e old new × IsSilent old new
 EndLeaves status.Sink e old new = SinkFailed old new × IsCut e old new
 EndLeaves status.Usage e old new = ⊥
 EndLeaves status.Store e old new = ⊥
 EndLeaves status.Memory e old new = ⊥
 
--- what it leaves where the store failed or memory was not found: a line, or a front of it where the report failed then
-abbrev pub FailureLeaves : Status → RunRequest → Outside → Outside → Type 0
-FailureLeaves status.Store q old new = (name : List ℕ) × IsNameOf q name × StoreFailed old new × IsSilent old new × Says (store_line name) old new
-FailureLeaves status.Memory q old new = IsSilent old new × Says memory_line old new
-FailureLeaves status.Sink q old new =
+-- what it leaves where the store failed at one of these files, or memory was not found: a line, or a front of it where
+-- the report failed then
+abbrev pub FailureLeaves : Status → List (List ℕ) → Outside → Outside → Type 0
+FailureLeaves status.Store names old new = (name : List ℕ) × IsOneOf names name × StoreFailed old new × IsSilent old new × Says (store_line name) old new
+FailureLeaves status.Memory names old new = IsSilent old new × Says memory_line old new
+FailureLeaves status.Sink names old new =
     SinkFailed old new × IsSilent old new
-    × (((name : List ℕ) × IsNameOf q name × StoreFailed old new × SaysFront (store_line name) old new) ⊎ SaysFront memory_line old new)
-FailureLeaves status.Done q old new = ⊥
-FailureLeaves status.Usage q old new = ⊥
-FailureLeaves status.Config q old new = ⊥
-FailureLeaves status.Image q old new = ⊥
-FailureLeaves status.Script q old new = ⊥
-FailureLeaves status.File q old new = ⊥
-FailureLeaves status.Part q old new = ⊥
+    × (((name : List ℕ) × IsOneOf names name × StoreFailed old new × SaysFront (store_line name) old new) ⊎ SaysFront memory_line old new)
+FailureLeaves status.Done names old new = ⊥
+FailureLeaves status.Usage names old new = ⊥
+FailureLeaves status.Config names old new = ⊥
+FailureLeaves status.Image names old new = ⊥
+FailureLeaves status.Script names old new = ⊥
+FailureLeaves status.File names old new = ⊥
+FailureLeaves status.Part names old new = ⊥
+FailureLeaves status.Source names old new = ⊥
 
--- the call comes to an ending for which this is so, or the store or memory failed
-abbrev pub Ends : (Ending → Type 0) → Status → RunRequest → Outside → Outside → Type 0
-Ends Calls s q old new = ((e : Ending) × Calls e × EndLeaves s e old new) ⊎ FailureLeaves s q old new
+-- the call comes to an ending for which this is so, or the store, at one of these files, or memory failed
+abbrev pub Ends : (Ending → Type 0) → Status → List (List ℕ) → Outside → Outside → Type 0
+Ends Calls s names old new = ((e : Ending) × Calls e × EndLeaves s e old new) ⊎ FailureLeaves s names old new
 
 -- the request's call answers this status, and leaves what it says of an ending that the request calls for
 abbrev pub RequestEnds : Status → Option Request → Option Files → List ObjState → Outside → Outside → Type 0
 RequestEnds s None files parts old new = Leaves s usage_ending [] old new
 RequestEnds s (Some (Flat q)) files parts old new =
     (file : Option (List ℕ)) × IsFileOf files q.image file × Leaves s (file_ending q.image q.count file) q.image old new
-RequestEnds s (Some (Machine q)) files parts old new = Ends (RunCallsFor q files parts) s q old new
+RequestEnds s (Some (Machine q)) files parts old new = Ends (RunCallsFor q files parts) s (run_names q) old new
+RequestEnds s (Some (Assembly q)) files parts old new = Ends (AssemblyCallsFor q files) s (assembly_names q) old new
 
 -- the call answers this status, and leaves what it says of an ending that the words call for
 unfoldable pub EndsAs : Status → List (List ℕ) → Option Files → List ObjState → Outside → Outside → Type 0

@@ -1,7 +1,8 @@
 -- A run in progress, as a state of the run over flat memory. Source: this project's own rule.
 use Rattle.std.specs.Prelude.{ℕ, List}
 use Rattle.rv_step.specs.Run.{FlatState, loaded_state}
-use Rattle.rv_step.specs.FlatMem.{ram_base, zeroed, ram_put}
+use Rattle.elf_image.specs.Ram.{ram_of}
+use Rattle.elf_image.specs.declared.image.Image.{Image}
 use Rattle.session.specs.declared.run.FlatRun.{FlatRun}
 
 -- the run, whose console took these bytes since its start
@@ -12,6 +13,6 @@ state_with r console = record { arch = r.arch; ram = r.ram; console = console; e
 abbrev pub flat_size : ℕ
 flat_size = 16777216
 
--- the start: the image at the beginning of RAM, which is its entry, and zeros behind it
-abbrev pub flat_start : List ℕ → FlatState
-flat_start image = loaded_state ram_base (ram_put (zeroed flat_size) ram_base image)
+-- the start: the image in RAM, zeros beside it, and the hart at its entry
+abbrev pub flat_start : Image → FlatState
+flat_start image = loaded_state image.entry (ram_of image flat_size)

@@ -1,9 +1,10 @@
 -- What a machine writes when it carries out a script. Source: this project's own rule.
 use Rattle.std.specs.Prelude.{ℕ, List, [], ◌∷◌, ◌++◌, codes, decimal}
-use Rattle.rv_step.specs.FlatMem.{ram_base}
+use Rattle.elf_image.specs.Ram.{ram_of}
+use Rattle.elf_image.specs.declared.image.Image.{Image}
 use Rattle.cfg_tree.specs.declared.config.Config.{Config}
 use Rattle.gm_model.specs.Run.{RunEnd, run_to, retired_in, console_of}
-use Rattle.gm_model.specs.Start.{start_state, resumed_state, with_raw}
+use Rattle.gm_model.specs.Start.{start_state, resumed_state}
 use Rattle.gm_model.specs.Sys.{Sys}
 use Rattle.gm_model.specs.View.{program_state}
 use Rattle.gm_model.specs.declared.entry.Entry.{Entry}
@@ -62,6 +63,6 @@ unfoldable pub script_written : ℕ → Sys → List Stop → Written
 script_written budget s [] = record { sys = s; console = []; report = []; history = [] }
 script_written budget s (x ∷ xs) = then_written (stop_written budget s x) (script_written budget (stop_written budget s x).sys xs)
 
--- the machine of a configuration with an image at the beginning of RAM, once it is resumed
-abbrev pub machine_start : Config → List ℕ → Sys
-machine_start c image = resumed_state (with_raw ram_base image (start_state c ram_base []))
+-- the machine of a configuration with an image in RAM and the hart at its entry, once it is resumed
+abbrev pub machine_start : Config → Image → Sys
+machine_start c image = resumed_state (start_state c image.entry (ram_of image c.system_ram))

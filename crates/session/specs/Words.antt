@@ -43,15 +43,28 @@ run_request (form ∷ config ∷ image ∷ script ∷ []) =
     if pointwise nat_eq form (codes "run") then Some (record { config = config; image = image; script = script }) else None
 run_request _ = None
 
--- what the words ask for: a run over flat memory, or one of the machine
+-- what the words `asm SOURCE IMAGE` name: two files
+pub record AssemblyRequest : Type 0 where
+  pub source : List ℕ
+  pub image : List ℕ
+
+-- the words are `asm` and two names
+abbrev pub assembly_request : List (List ℕ) → Option AssemblyRequest
+assembly_request (form ∷ source ∷ image ∷ []) =
+    if pointwise nat_eq form (codes "asm") then Some (record { source = source; image = image }) else None
+assembly_request _ = None
+
+-- what the words ask for: a run over flat memory, one of the machine, or the file of a source
 pub data Request : Type 0 where
   Flat : FlatRequest → Request
   Machine : RunRequest → Request
+  Assembly : AssemblyRequest → Request
 
--- the words ask for the one or the other, or for nothing
-abbrev pub either_request : Option FlatRequest → Option RunRequest → Option Request
-either_request (Some q) other = Some (Flat q)
-either_request None other = option_map Machine other
+-- the words ask for one of these, or for nothing
+abbrev pub any_request : Option FlatRequest → Option RunRequest → Option AssemblyRequest → Option Request
+any_request (Some q) run assembly = Some (Flat q)
+any_request None (Some q) assembly = Some (Machine q)
+any_request None None assembly = option_map Assembly assembly
 
 abbrev pub request_of : List (List ℕ) → Option Request
-request_of words = either_request (flat_request words) (run_request words)
+request_of words = any_request (flat_request words) (run_request words) (assembly_request words)

@@ -1,63 +1,86 @@
 // A machine is built, loaded with an image, and carries out a script.
-ghost use Rattle.std.specs.Prelude.{◌≡◌, ◌≤◌, ◌<◌, ℕ, ◌+◌, ◌*◌, ◌^◌, List, [], length, map, nat_eq};
-ghost use Rattle.gc_base.specs.declared.limits.TheConstants.{BUDGET_MAX};
-ghost use Rattle.rv_step.specs.FlatMem.{ram_base};
+ghost use Rattle.std.specs.Prelude.{◌≡◌, ◌≤◌, ◌%◌, ℕ, All, List, length, map};
 ghost use Rattle.cfg_tree.specs.Valid.{IsValidConfig};
-ghost use Rattle.gm_model.specs.Start.{resumed_state, with_raw};
-ghost use Rattle.gm_model.specs.View.{own_ram};
-ghost use Rattle.kernel.specs.Build.{AreBlank};
+ghost use Rattle.elf_image.specs.Image.{LiesInRam};
+ghost use Rattle.kernel.specs.Build.{AreBlank, lacking};
+ghost use Rattle.kernel.specs.Load.{IsAsBuilt};
 ghost use Rattle.kernel.specs.Shown.{sys_seen, IsSeen};
-ghost use Rattle.session.specs.Calls.{boot_ending, written_ending};
+ghost use Rattle.session.specs.Calls.{boot_ending, parts_ending, written_ending};
 ghost use Rattle.session.specs.Leaves.{Ends, seen};
-ghost use Rattle.session.specs.Script.{script_written};
-ghost use Rattle.session.specs.Words.{RunRequest};
+ghost use Rattle.session.specs.Script.{script_written, machine_start};
 
 use crate::carry_out::carry_out;
-use crate::flat::is_elf;
-use crate::refuse_text::refuse_part;
+use crate::refuse_text::{refuse_image, refuse_part};
 use crate::say::refuse;
 use crate::status::Status;
 use cfg_tree::Config;
+use elf_image::Image;
 use gc_outside::Sink;
-use gm_model::platform::RAM_BASE;
 use kernel::{BuildFault, Machine};
 use obj_core::SimObject;
 use std::alloc::Global;
 use stop_script::Stop;
 
-/// Loads the image at the beginning of RAM, lets the machine go on, and carries out the stops.
+/// Loads the image, lets the machine go on, and carries out the stops.
 fn run_machine<C: Sink, R: Sink>(
     machine: Machine,
-    image: &[u8],
+    config: &Config,
     stops: &[Stop],
-    budget: u64,
+    image: &Image,
     console: &mut C,
     report: &mut R,
 ) -> Status
     requires machine { IsSeen machine state }
-    requires image { length image.now ≤ length (own_ram (sys_seen machine state).objects) }
-    requires events { (sys_seen machine state).counts.events ≤ 2 ^ 54 }
-    requires budget { budget ≤ BUDGET_MAX }
+    requires valid { IsValidConfig config.now }
+    requires built { IsAsBuilt config.now (sys_seen machine state) }
+    requires in_ram { All (LiesInRam config.now.system_ram) image.now.pieces }
+    requires aligned { image.now.entry % 4 ≡ 0 }
     requires few { length stops.now ≤ 256 }
-    ensures { (q : RunRequest) (f g : ℕ) → Ends (λ e. e ≡ written_ending (script_written budget (resumed_state (with_raw ram_base image.now (sys_seen machine state))) stops.now)) result q
+    ensures { (names : List (List ℕ)) (f g : ℕ) → Ends (λ e. e ≡ written_ending (script_written config.now.system_budget (machine_start config.now image.now) stops.now)) result names
         (seen f (C.taken console.old) (C.faults console.old) (R.taken report.old) (R.faults report.old))
         (seen g (C.taken console.new) (C.faults console.new) (R.taken report.new) (R.faults report.new)) }
 {
     let mut machine = machine;
-    machine.put_raw(RAM_BASE, image);
+    machine.load_image(image);
     machine.resume_all();
-    match carry_out(&mut machine, stops, budget, console, report) {
+    match carry_out(&mut machine, stops, config.system_budget, console, report) {
         Ok(()) => Status::Done,
         Err(_) => Status::Sink,
     }
 }
 
-/// Builds the machine of a configuration and runs an image in it, or refuses the image or the parts.
+/// Builds the machine of a configuration and runs an image in it, or says of which kind there are too few parts.
+fn run_image<C: Sink, R: Sink>(
+    alloc: Global,
+    config: &Config,
+    stops: &[Stop],
+    image: &Image,
+    parts: Vec<Box<dyn SimObject>>,
+    console: &mut C,
+    report: &mut R,
+) -> Status
+    requires valid { IsValidConfig config.now }
+    requires blank { AreBlank (map (λ b. state b) parts.items) }
+    requires in_ram { All (LiesInRam config.now.system_ram) image.now.pieces }
+    requires aligned { image.now.entry % 4 ≡ 0 }
+    requires few { length stops.now ≤ 256 }
+    ensures { (names : List (List ℕ)) (f g : ℕ) → Ends (λ e. e ≡ parts_ending config.now stops.now image.now (lacking config.now (map (λ b. state b) parts.items))) result names
+        (seen f (C.taken console.old) (C.faults console.old) (R.taken report.old) (R.faults report.old))
+        (seen g (C.taken console.new) (C.faults console.new) (R.taken report.new) (R.faults report.new)) }
+{
+    match Machine::build(alloc, config, parts) {
+        Ok(machine) => run_machine(machine, config, stops, image, console, report),
+        Err(BuildFault::Part { kind }) => refuse_part(kind, report),
+        Err(BuildFault::NoMemory) => refuse(Status::Memory, b"memory\n", report),
+    }
+}
+
+/// Reads the image and runs it in the machine of a configuration, or refuses it or the parts.
 pub(crate) fn boot<C: Sink, R: Sink>(
     alloc: Global,
     config: &Config,
     stops: &[Stop],
-    image: &[u8],
+    file: &[u8],
     parts: Vec<Box<dyn SimObject>>,
     console: &mut C,
     report: &mut R,
@@ -65,19 +88,12 @@ pub(crate) fn boot<C: Sink, R: Sink>(
     requires valid { IsValidConfig config.now }
     requires blank { AreBlank (map (λ b. state b) parts.items) }
     requires few { length stops.now ≤ 256 }
-    ensures { (q : RunRequest) (f g : ℕ) → Ends (λ e. e ≡ boot_ending config.now stops.now (map (λ b. state b) parts.items) image.now) result q
+    ensures { (names : List (List ℕ)) (f g : ℕ) → Ends (λ e. e ≡ boot_ending config.now stops.now (map (λ b. state b) parts.items) file.now) result names
         (seen f (C.taken console.old) (C.faults console.old) (R.taken report.old) (R.faults report.old))
         (seen g (C.taken console.new) (C.faults console.new) (R.taken report.new) (R.faults report.new)) }
 {
-    if is_elf(image) {
-        return refuse(Status::Image, b"image header\n", report);
-    }
-    if image.len() as u64 > config.system_ram {
-        return refuse(Status::Image, b"image raw\n", report);
-    }
-    match Machine::build(alloc, config, parts) {
-        Ok(machine) => run_machine(machine, image, stops, config.system_budget, console, report),
-        Err(BuildFault::Part { kind }) => refuse_part(kind, report),
-        Err(BuildFault::NoMemory) => refuse(Status::Memory, b"memory\n", report),
+    match elf_image::read(alloc, file, config.system_ram as u32) {
+        Ok(image) => run_image(alloc, config, stops, &image, parts, console, report),
+        Err(fault) => refuse_image(fault, report),
     }
 }

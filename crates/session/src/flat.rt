@@ -1,12 +1,12 @@
 // The words `flat IMAGE COUNT`: an image over flat memory.
-ghost use Rattle.std.specs.Prelude.{◌≡◌, ℕ, List, [], Option, nat_eq};
-ghost use Rattle.std.specs.List.{starts_with};
-ghost use Rattle.session.specs.Ending.{elf_mark, image_ending, file_ending, run_ending};
+ghost use Rattle.std.specs.Prelude.{◌≡◌, ℕ, List, [], Option};
+ghost use Rattle.session.specs.Ending.{image_ending, file_ending, run_ending};
 ghost use Rattle.session.specs.Calls.{IsFileOf};
 ghost use Rattle.session.specs.Leaves.{Leaves, seen};
 ghost use Rattle.session.specs.Run.{state_with};
 ghost use Rattle.rv_step.specs.Run.{flat_run};
 
+use crate::refuse_text::refuse_image;
 use crate::report::report_of;
 use crate::run::{FLAT_SIZE, FlatRun};
 use crate::say::{refuse, refuse_file};
@@ -15,13 +15,6 @@ use crate::words::FlatWords;
 use gc_base::limits::IMAGE_BYTES_MAX;
 use gc_outside::{GetError, Got, Sink, Store};
 use std::alloc::Global;
-
-/// Whether a file is an ELF image.
-pub(crate) fn is_elf(file: &[u8]) -> bool
-    ensures { result ≡ starts_with nat_eq file.now elf_mark }
-{
-    file.starts_with(b"\x7fELF")
-}
 
 /// Makes the run, and reports it.
 fn perform<C: Sink, R: Sink>(
@@ -48,22 +41,20 @@ fn perform<C: Sink, R: Sink>(
 /// Runs an image, or refuses it.
 fn run_image<C: Sink, R: Sink>(
     alloc: Global,
-    image: &[u8],
+    file: &[u8],
     count: u64,
     console: &mut C,
     report: &mut R,
 ) -> Status
-    ensures { (name : List ℕ) (f g : ℕ) → Leaves result (image_ending count image.now) name
+    ensures { (name : List ℕ) (f g : ℕ) → Leaves result (image_ending count file.now) name
         (seen f (C.taken console.old) (C.faults console.old) (R.taken report.old) (R.faults report.old))
         (seen g (C.taken console.new) (C.faults console.new) (R.taken report.new) (R.faults report.new)) }
 {
-    if is_elf(image) {
-        return refuse(Status::Image, b"image header\n", report);
-    }
-    if image.len() > FLAT_SIZE as usize {
-        return refuse(Status::Image, b"image raw\n", report);
-    }
-    match FlatRun::load(alloc, image) {
+    let image = match elf_image::read(alloc, file, FLAT_SIZE) {
+        Ok(image) => image,
+        Err(fault) => return refuse_image(fault, report),
+    };
+    match FlatRun::load(alloc, &image) {
         Ok(mut run) => perform(&mut run, count, console, report),
         Err(_) => refuse(Status::Memory, b"memory\n", report),
     }

@@ -6,6 +6,7 @@
 //! It opens no file and prints nothing by itself: that is the program's, in gc_cli.
 #![tactic(auto)]
 
+mod assembly;
 mod boot;
 mod carry_out;
 mod fetch;

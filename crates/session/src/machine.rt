@@ -3,7 +3,7 @@ ghost use Rattle.std.specs.Prelude.{◌≡◌, ◌≤◌, ℕ, List, Option, len
 ghost use Rattle.cfg_tree.specs.Valid.{IsValidConfig};
 ghost use Rattle.kernel.specs.Build.{AreBlank};
 ghost use Rattle.session.specs.Calls.{RunCallsFor, ScriptFileCallsFor, ImageFileCallsFor};
-ghost use Rattle.session.specs.Leaves.{Ends, seen};
+ghost use Rattle.session.specs.Leaves.{Ends, run_names, seen};
 ghost use Rattle.session.specs.Named.{request_named};
 
 use crate::boot::boot;
@@ -35,7 +35,7 @@ fn run_image<S: Store, C: Sink, R: Sink>(
     requires few { length stops.now ≤ 256 }
     ensures same_files { S.files store.new ≡ S.files store.old }
     ensures same_put { S.open_put store.new ≡ S.open_put store.old }
-    ensures ends { Ends (ImageFileCallsFor (request_named words.now) (S.files store.old) (map (λ b. state b) parts.items) config.now stops.now) result (request_named words.now)
+    ensures ends { Ends (ImageFileCallsFor (request_named words.now) (S.files store.old) (map (λ b. state b) parts.items) config.now stops.now) result (run_names (request_named words.now))
         (seen (S.faults store.old) (C.taken console.old) (C.faults console.old) (R.taken report.old) (R.faults report.old))
         (seen (S.faults store.new) (C.taken console.new) (C.faults console.new) (R.taken report.new) (R.faults report.new)) }
 {
@@ -59,7 +59,7 @@ fn run_script<S: Store, C: Sink, R: Sink>(
     requires blank { AreBlank (map (λ b. state b) parts.items) }
     ensures same_files { S.files store.new ≡ S.files store.old }
     ensures same_put { S.open_put store.new ≡ S.open_put store.old }
-    ensures ends { Ends (ScriptFileCallsFor (request_named words.now) (S.files store.old) (map (λ b. state b) parts.items) config.now) result (request_named words.now)
+    ensures ends { Ends (ScriptFileCallsFor (request_named words.now) (S.files store.old) (map (λ b. state b) parts.items) config.now) result (run_names (request_named words.now))
         (seen (S.faults store.old) (C.taken console.old) (C.faults console.old) (R.taken report.old) (R.faults report.old))
         (seen (S.faults store.new) (C.taken console.new) (C.faults console.new) (R.taken report.new) (R.faults report.new)) }
 {
@@ -95,7 +95,7 @@ pub(crate) fn run<S: Store, C: Sink, R: Sink>(
     requires blank { AreBlank (map (λ b. state b) parts.items) }
     ensures same_files { S.files store.new ≡ S.files store.old }
     ensures same_put { S.open_put store.new ≡ S.open_put store.old }
-    ensures ends { Ends (RunCallsFor (request_named words.now) (S.files store.old) (map (λ b. state b) parts.items)) result (request_named words.now)
+    ensures ends { Ends (RunCallsFor (request_named words.now) (S.files store.old) (map (λ b. state b) parts.items)) result (run_names (request_named words.now))
         (seen (S.faults store.old) (C.taken console.old) (C.faults console.old) (R.taken report.old) (R.faults report.old))
         (seen (S.faults store.new) (C.taken console.new) (C.faults console.new) (R.taken report.new) (R.faults report.new)) }
 {

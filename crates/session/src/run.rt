@@ -1,10 +1,13 @@
 // A run over flat memory, with a sink as its console.
-ghost use Rattle.std.specs.Prelude.{◌≡◌, ◌≤◌, ◌<◌, ◌+◌, ◌-◌, ◌^◌, ℕ, List, [], false, length, is_ok, option_to_list, IfOk, OnOk};
+ghost use Rattle.std.specs.Prelude.{◌≡◌, ◌≤◌, ◌<◌, ◌+◌, ◌-◌, ◌^◌, ℕ, All, List, [], false, fold, length, is_ok, option_to_list, IfOk, OnOk};
+ghost use Rattle.elf_image.specs.Image.{LiesInRam};
+ghost use Rattle.elf_image.specs.Ram.{with_piece};
 ghost use Rattle.rv_step.specs.Flat.{flat_step};
 ghost use Rattle.rv_step.specs.Run.{is_over, next_state, flat_run, console_with};
 ghost use Rattle.gc_outside.specs.Emits.{Emits};
 ghost use Rattle.session.specs.Run.{state_with, flat_start};
 
+use elf_image::{Image, Piece};
 use gc_base::NoMemory;
 use gc_outside::{Failed, Sink};
 use rv_step::{Arch, FlatEnd, FlatMem, step_flat};
@@ -12,9 +15,6 @@ use std::alloc::Global;
 
 /// The size of flat memory, in bytes.
 pub(crate) const FLAT_SIZE: u32 = 16_777_216;
-
-/// The address at which an image lies and begins.
-const ENTRY: u64 = 0x8000_0000;
 
 /// A hart over flat memory, the exit number that its guest wrote, and the steps made so far.
 #[derive(Drop)]
@@ -34,16 +34,41 @@ fn exit_number(end: FlatEnd) -> Option<u32>
     }
 }
 
+/// Puts pieces into RAM, in order.
+fn load_pieces(ram: &mut FlatMem, pieces: &[Piece])
+    requires within { All (LiesInRam (length ram.old)) pieces.now }
+    requires size { length ram.old ≤ FLAT_SIZE }
+    ensures { ram.new ≡ fold with_piece ram.old pieces.now }
+{
+    for piece in pieces {
+        load_piece(ram, piece);
+    }
+}
+
+/// Puts a piece into RAM, its zeros with it.
+fn load_piece(ram: &mut FlatMem, piece: &Piece)
+    requires within { LiesInRam (length ram.old) piece.now }
+    requires size { length ram.old ≤ FLAT_SIZE }
+    ensures loaded { ram.new ≡ with_piece ram.old piece.now }
+    ensures size { length ram.new ≡ length ram.old }
+{
+    let mut done = 0;
+    while let Some(block) = piece.block(done) {
+        ram.put(piece.addr + done, block);
+        done += block.len() as u64;
+    }
+}
+
 impl FlatRun {
-    /// A run that is about to begin: the image in RAM, all else 0.
-    pub fn load(alloc: Global, image: &[u8]) -> Result<FlatRun, NoMemory>
-        requires { length image.now ≤ FLAT_SIZE }
+    /// A run that is about to begin: the image in RAM, all else 0, and the hart at its entry.
+    pub fn load(alloc: Global, image: &Image) -> Result<FlatRun, NoMemory>
+        requires { All (LiesInRam FLAT_SIZE) image.now.pieces }
         ensures { IfOk result (λ r. state_with r [] ≡ flat_start image.now) }
     {
         let mut ram = FlatMem::new(alloc, FLAT_SIZE)?;
-        ram.put(ENTRY, image);
+        load_pieces(&mut ram, image.pieces.items());
         Ok(FlatRun {
-            arch: Arch::reset(ENTRY),
+            arch: Arch::reset(image.entry),
             ram,
             exit: None,
             steps: 0,

@@ -24,6 +24,8 @@ pub enum Status {
     Memory = 10,
     /// There are too few parts of a kind.
     Part = 11,
+    /// The source is refused.
+    Source = 12,
 }
 
 impl Status {

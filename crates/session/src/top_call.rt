@@ -1,17 +1,21 @@
 // The top call.
 ghost use Rattle.std.specs.Prelude.{◌≡◌, ◌≤◌, ℕ, List, Option, map, string_bytes};
+ghost use Rattle.elf_image.specs.declared.image.Image.{Image};
 ghost use Rattle.rv_step.specs.Run.{flat_run};
 ghost use Rattle.kernel.specs.Build.{AreBlank};
 ghost use Rattle.session.specs.Replayed.{ScriptsAreReplayed};
 ghost use Rattle.session.specs.Codes.{AnswersCall, code_of};
 ghost use Rattle.session.specs.Leaves.{EndsAs, seen};
+ghost use Rattle.session.specs.Puts.{Puts, kept};
 ghost use Rattle.session.specs.Run.{flat_start};
+ghost use Rattle.session.specs.declared.status.Status.{Status};
 
+use crate::assembly::assembly;
 use crate::flat::flat;
 use crate::machine::run;
 use crate::say::refuse;
 use crate::status::Status;
-use crate::words::{FlatWords, RunWords};
+use crate::words::{AssemblyWords, FlatWords, RunWords};
 use gc_outside::{Sink, Store};
 use obj_core::SimObject;
 use std::alloc::Global;
@@ -26,8 +30,7 @@ fn perform<S: Store, C: Sink, R: Sink>(
     report: &mut R,
 ) -> Status
     requires { AreBlank (map (λ b. state b) bin.items) }
-    ensures same_files { S.files store.new ≡ S.files store.old }
-    ensures same_put { S.open_put store.new ≡ S.open_put store.old }
+    ensures puts { Puts result (map string_bytes words.now) (kept (S.files store.old) (S.open_put store.old)) (kept (S.files store.new) (S.open_put store.new)) }
     ensures ends { EndsAs result (map string_bytes words.now) (S.files store.old) (map (λ b. state b) bin.items)
         (seen (S.faults store.old) (C.taken console.old) (C.faults console.old) (R.taken report.old) (R.faults report.old))
         (seen (S.faults store.new) (C.taken console.new) (C.faults console.new) (R.taken report.new) (R.faults report.new)) }
@@ -35,8 +38,11 @@ fn perform<S: Store, C: Sink, R: Sink>(
     if let Some(words) = FlatWords::read(words) {
         return flat(alloc, &words, store, console, report);
     }
-    match RunWords::read(words) {
-        Some(words) => run(alloc, &words, bin, store, console, report),
+    if let Some(words) = RunWords::read(words) {
+        return run(alloc, &words, bin, store, console, report);
+    }
+    match AssemblyWords::read(words) {
+        Some(words) => assembly(alloc, &words, store, report),
         None => refuse(Status::Usage, b"usage\n", report),
     }
 }
@@ -47,6 +53,7 @@ fn perform<S: Store, C: Sink, R: Sink>(
 /// - `flat IMAGE COUNT` runs the image over flat memory, for at most COUNT steps.
 /// - `run CONFIG IMAGE SCRIPT` builds the machine of the configuration out of `bin`, loads the image, and carries out the
 ///   script.
+/// - `asm SOURCE IMAGE` assembles the source, and puts the ELF file of its words.
 pub fn gemcore<S: Store, C: Sink, R: Sink>(
     alloc: Global,
     words: &[String],
@@ -82,6 +89,10 @@ pub fn gemcore<S: Store, C: Sink, R: Sink>(
         (seen (S.faults store.old) (C.taken console.old) (C.faults console.old) (R.taken report.old) (R.faults report.old))
         (seen (S.faults store.new) (C.taken console.new) (C.faults console.new) (R.taken report.new) (R.faults report.new)) }
 
+    ensures source { result ≡ 12 → EndsAs Status.Source (map string_bytes words.now) (S.files store.old) (map (λ b. state b) bin.items)
+        (seen (S.faults store.old) (C.taken console.old) (C.faults console.old) (R.taken report.old) (R.faults report.old))
+        (seen (S.faults store.new) (C.taken console.new) (C.faults console.new) (R.taken report.new) (R.faults report.new)) }
+
     // The store failed, a sink failed, or memory was not found.
     ensures store { result ≡ 8 → EndsAs Status.Store (map string_bytes words.now) (S.files store.old) (map (λ b. state b) bin.items)
         (seen (S.faults store.old) (C.taken console.old) (C.faults console.old) (R.taken report.old) (R.faults report.old))
@@ -98,12 +109,14 @@ pub fn gemcore<S: Store, C: Sink, R: Sink>(
         (seen (S.faults store.old) (C.taken console.old) (C.faults console.old) (R.taken report.old) (R.faults report.old))
         (seen (S.faults store.new) (C.taken console.new) (C.faults console.new) (R.taken report.new) (R.faults report.new)) }
 
-    // No file and no put is touched, and a run makes no step more than it may.
-    ensures same_files { S.files store.new ≡ S.files store.old }
-    ensures same_put { S.open_put store.new ≡ S.open_put store.old }
+    // What stands in the store then: as it did, but for the one file that `asm` puts.
+    ensures puts { (s : Status) → result ≡ code_of s
+        → Puts s (map string_bytes words.now) (kept (S.files store.old) (S.open_put store.old)) (kept (S.files store.new) (S.open_put store.new)) }
+
     // What a script's events note is the instruction set's over flat memory, from the machine's start to where it ends.
     ensures replay { ScriptsAreReplayed }
-    ensures steps { (image : List ℕ) (count : ℕ) → (flat_run (flat_start image) count).steps ≤ count }
+    // A run makes no step more than it may.
+    ensures steps { (image : Image) (count : ℕ) → (flat_run (flat_start image) count).steps ≤ count }
 {
     perform(alloc, words, bin, store, console, report).code()
 }

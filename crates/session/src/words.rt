@@ -1,7 +1,7 @@
 // The words of the command line.
 ghost use Rattle.std.specs.Prelude.{◌≡◌, List, ℕ, map, Some, None, MatchOption, string_bytes};
-ghost use Rattle.session.specs.Words.{allowed_count, spelled_number, flat_request, run_request};
-ghost use Rattle.session.specs.Named.{request_named};
+ghost use Rattle.session.specs.Words.{allowed_count, spelled_number, flat_request, run_request, assembly_request};
+ghost use Rattle.session.specs.Named.{request_named, assembly_named};
 
 use gc_text::read_dec;
 
@@ -62,6 +62,28 @@ impl<'a> RunWords<'a> {
                 config: config.as_str(),
                 image: image.as_str(),
                 script: script.as_str(),
+            }),
+            _ => None,
+        }
+    }
+}
+
+/// What the words `asm SOURCE IMAGE` name: two files.
+#[derive(Clone, Copy)]
+pub struct AssemblyWords<'a> {
+    pub source: &'a str,
+    pub image: &'a str,
+}
+
+impl<'a> AssemblyWords<'a> {
+    /// The words after the program's name, where they are `asm` and two names.
+    pub fn read(words: &'a [String]) -> Option<AssemblyWords<'a>>
+        ensures { MatchOption result (assembly_request (map string_bytes words.now) ≡ None) (λ w. assembly_request (map string_bytes words.now) ≡ Some (assembly_named w)) }
+    {
+        match words {
+            [form, source, image] if form.as_str() == "asm" => Some(AssemblyWords {
+                source: source.as_str(),
+                image: image.as_str(),
             }),
             _ => None,
         }

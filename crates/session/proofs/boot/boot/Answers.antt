@@ -1,12 +1,8 @@
-use Rattle.std.proofs.Common.{◌≡◌, refl, true, nat_eq, rules}
-use Rattle.std.specs.List.{starts_with}
-use Rattle.session.specs.Ending.{elf_mark}
-use Rattle.std.specs.Prelude.{codes}
-use Rattle.session.specs.declared.status.Status.TheVariants as status
-use Rattle.session.proofs.MachineLemmas.{ends-refusal}
+use Rattle.std.proofs.Common.{map}
+use Rattle.session.proofs.MachineLemmas.{fault-boots}
 use Rattle.session.proofs.boot.boot.Goals as goal
 
-pub returns-then-is_elf : goal.returns-then-is_elf
-returns-then-is_elf g c = λ q f h.
-    let elf : starts_with nat_eq c.args.image.now elf_mark ≡ true = search (rules, c.is_elf.ensures, c.if-is_elf.true) in
-    ends-refusal q _ _ f h _ _ _ _ _ status.Image _ (codes "image header") (rw elf refl) tt c.refuse.ensures
+pub returns-in-Err : goal.returns-in-Err
+returns-in-Err g c = λ names f h.
+    fault-boots names c.args.config.now c.args.stops.now (map (λ b. (goal.SimObject-dyn g (b.vtable, b.value)).state b.value) c.args.parts.items) c.args.file.now c.in-Err.fault _ _ _ f h _ _ _ _
+    c.in-Err.ensures.fault c.in-Err.ensures.memory c.refuse_image.ensures

@@ -1,10 +1,12 @@
-use Rattle.std.proofs.Common.{sym, ◌∙◌}
-use Rattle.std.specs.Prelude.{codes}
-use Rattle.session.specs.declared.status.Status.TheVariants as status
-use Rattle.session.proofs.LeavesLemmas.{leaves-refusal}
+use Rattle.session.specs.Run.{flat_size}
+use Rattle.session.proofs.LeavesLemmas.{leaves-image, leaves-memory}
+use Rattle.session.proofs.MachineLemmas.{fault-flat}
 use Rattle.session.proofs.flat.run_image.Goals as goal
 
-pub returns-then-is_elf : goal.returns-then-is_elf
-returns-then-is_elf g c = λ name f h.
-    let elf = sym c.is_elf.ensures ∙ c.if-is_elf.true in
-    rw elf (leaves-refusal status.Image c.refuse.result (codes "image header") name _ _ f h _ _ _ _ tt c.refuse.ensures)
+pub returns-in-Err : goal.returns-in-Err
+returns-in-Err g c = λ name f h.
+    leaves-image c.in-Err.fault _ _ name (g.C.Sink.taken c.args.console.now) (g.C.Sink.faults c.args.console.now) f h _ _ _ _
+    (fault-flat c.args.file.now c.args.count flat_size c.in-Err.fault c.in-Err.ensures.fault c.in-Err.ensures.memory) c.refuse_image.ensures
+
+pub returns : goal.returns
+returns g c = λ name f h. leaves-memory _ _ name (g.C.Sink.taken c.args.console.now) (g.C.Sink.faults c.args.console.now) f h _ _ _ _ c.refuse.ensures

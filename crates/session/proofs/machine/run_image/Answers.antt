@@ -1,9 +1,9 @@
-use Rattle.std.proofs.Common.{refl, sym, inr, map}
+use Rattle.std.proofs.Common.{refl, sym, inl, inr, map}
 use Rattle.session.proofs.MachineLemmas.{ends-file, image-ends}
 use Rattle.session.proofs.machine.run_image.Goals as goal
 
 pub returns-in-Err-clause-ends : goal.returns-in-Err-clause-ends
-returns-in-Err-clause-ends g c = ends-file _ _ _ _ _ _ _ _ _ _ _ _ _ _ (inr (inr refl)) c.in-Err.ensures.refused
+returns-in-Err-clause-ends g c = ends-file _ _ _ _ _ _ _ _ _ _ _ _ _ _ (inr (inr (inl refl))) c.in-Err.ensures.refused
 
 pub returns-in-Ok-clause-ends : goal.returns-in-Ok-clause-ends
 returns-in-Ok-clause-ends g c =

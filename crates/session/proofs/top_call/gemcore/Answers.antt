@@ -1,7 +1,7 @@
 use Rattle.std.proofs.Common.{refl}
 use Rattle.session.specs.declared.status.Status.TheVariants as status
 use Rattle.session.specs.Run.{flat_start}
-use Rattle.session.proofs.EndsLemmas.{ends-at, answers-call, flat_run-steps}
+use Rattle.session.proofs.EndsLemmas.{ends-at, puts-at, answers-call, flat_run-steps}
 use Rattle.session.proofs.ReplayLemmas.{scripts_replayed}
 use Rattle.session.proofs.top_call.gemcore.Goals as goal
 
@@ -37,6 +37,12 @@ returns-clause-script g c = λ e. ends-at _ status.Script _ _ _ _ _ _ c.code.ens
 
 pub returns-clause-part : goal.returns-clause-part
 returns-clause-part g c = λ e. ends-at _ status.Part _ _ _ _ _ _ c.code.ensures e c.perform.ensures.ends
+
+pub returns-clause-source : goal.returns-clause-source
+returns-clause-source g c = λ e. ends-at _ status.Source _ _ _ _ _ _ c.code.ensures e c.perform.ensures.ends
+
+pub returns-clause-puts : goal.returns-clause-puts
+returns-clause-puts g c = λ s e. puts-at _ s _ _ _ _ c.code.ensures e c.perform.ensures.puts
 
 pub returns-clause-steps : goal.returns-clause-steps
 returns-clause-steps g c = λ image count. flat_run-steps (flat_start image) count refl

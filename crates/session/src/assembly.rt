@@ -1,0 +1,112 @@
+// The words `asm SOURCE IMAGE`: a source is assembled, and the ELF file of its words is put.
+ghost use Rattle.std.specs.Prelude.{◌≡◌, ◌≤◌, ◌<◌, ◌-◌, ◌^◌, ℕ, List, [], ◌∷◌, Option, Some, None, length, IfOk, OnOk, OnErr, IfErr, Ok};
+ghost use Rattle.elf_image.specs.Written.{elf_bytes};
+ghost use Rattle.gc_outside.specs.Faults.{Rose};
+ghost use Rattle.gc_outside.specs.Store.{ChangesFile};
+ghost use Rattle.gc_outside.specs.Told.{Told};
+ghost use Rattle.rv_asm.specs.Source.{Explains};
+ghost use Rattle.session.specs.Calls.{AssemblyCallsFor, IsDone};
+ghost use Rattle.session.specs.Leaves.{Ends, assembly_names, seen};
+ghost use Rattle.session.specs.Named.{assembly_named};
+ghost use Rattle.session.specs.Puts.{AssemblyPuts, IsPutInPart, ProgramPuts, kept};
+ghost use Rattle.session.specs.Sources.{line_of_byte, source_words};
+
+use crate::fetch::fetch;
+use crate::refuse_text::refuse_source;
+use crate::say::{refuse, refuse_file};
+use crate::status::Status;
+use crate::words::AssemblyWords;
+use gc_base::limits::SOURCE_BYTES_MAX;
+use gc_outside::{Failed, Sink, Store};
+use rv_asm::{AsmFault, AsmKind, Program};
+use std::alloc::Global;
+use std::str;
+
+/// The number of the line in which a byte stands, counted from 1.
+fn line_of_byte(place: usize, text: &[u8]) -> u32
+    requires within { place ≤ length text.now }
+    requires size { length text.now < 2 ^ 32 - 1 }
+    ensures { result ≡ line_of_byte place text.now }
+{
+    let mut line = 1;
+    for byte in &text[..place] {
+        if *byte == b'\n' {
+            line += 1;
+        }
+    }
+    line
+}
+
+/// The words of a source's bytes.
+fn program_of(alloc: Global, source: &[u8]) -> Result<Program, AsmFault>
+    requires { length source.now < 2 ^ 32 - 1 }
+    ensures words { IfOk result (λ p. source_words source.now ≡ Ok p.words) }
+    ensures fault { IfErr result (Explains (source_words source.now)) }
+{
+    match str::from_utf8(source) {
+        Ok(text) => rv_asm::assemble(alloc, text),
+        Err(e) => Err(AsmFault::Line {
+            line: line_of_byte(e.valid_up_to(), source),
+            kind: AsmKind::Word,
+        }),
+    }
+}
+
+/// Puts a file whole.
+fn put<S: Store>(name: &str, bytes: &[u8], store: &mut S) -> Result<(), Failed>
+    ensures whole { OnOk result (Told (ChangesFile name.now (Some bytes.now)) (S.files store.old) (S.files store.new)) }
+    ensures part { OnErr result (Told (IsPutInPart name.now bytes.now) (S.files store.old) (S.files store.new)) }
+    ensures ended { S.open_put store.new ≡ None }
+    ensures cause { OnErr result (Rose (S.faults store.old) (S.faults store.new)) }
+    ensures count { S.faults store.old ≤ S.faults store.new }
+{
+    store.begin_put(name)?;
+    store.piece(bytes)?;
+    store.end_put()
+}
+
+/// Puts the ELF file of a program.
+fn put_program<S: Store, R: Sink>(
+    alloc: Global,
+    program: &Program,
+    name: &str,
+    store: &mut S,
+    report: &mut R,
+) -> Status
+    ensures ends { (console : Option (List ℕ)) (n : ℕ) → Ends IsDone result (name.now ∷ [])
+        (seen (S.faults store.old) console n (R.taken report.old) (R.faults report.old))
+        (seen (S.faults store.new) console n (R.taken report.new) (R.faults report.new)) }
+    ensures puts { ProgramPuts result name.now program.now.words (kept (S.files store.old) (S.open_put store.old)) (kept (S.files store.new) (S.open_put store.new)) }
+    ensures count { S.faults store.old ≤ S.faults store.new }
+{
+    let file = match elf_image::write(alloc, program) {
+        Ok(file) => file,
+        Err(_) => return refuse(Status::Memory, b"memory\n", report),
+    };
+    match put(name, &file, store) {
+        Ok(()) => Status::Done,
+        Err(Failed) => refuse_file(Status::Store, b"store ", name, b"\n", report),
+    }
+}
+
+/// Gets the source, assembles it, and puts the ELF file of its words.
+pub(crate) fn assembly<S: Store, R: Sink>(
+    alloc: Global,
+    words: &AssemblyWords,
+    store: &mut S,
+    report: &mut R,
+) -> Status
+    ensures ends { (console : Option (List ℕ)) (n : ℕ) → Ends (AssemblyCallsFor (assembly_named words.now) (S.files store.old)) result (assembly_names (assembly_named words.now))
+        (seen (S.faults store.old) console n (R.taken report.old) (R.faults report.old))
+        (seen (S.faults store.new) console n (R.taken report.new) (R.faults report.new)) }
+    ensures puts { AssemblyPuts result (assembly_named words.now) (kept (S.files store.old) (S.open_put store.old)) (kept (S.files store.new) (S.open_put store.new)) }
+{
+    let source = match fetch(alloc, words.source, SOURCE_BYTES_MAX, store, report) {
+        Ok(source) => source,
+        Err(status) => return status,
+    };
+    match program_of(alloc, source.items()) {
+        Ok(program) => put_program(alloc, &program, words.image, store, report),
+        Err(fault) => refuse_source(fault, report),
+    }
+}
