@@ -7,8 +7,9 @@ use cpu_atomic::AtomicCpu;
 use gc_base::NoMemory;
 use gc_outside::{Sink, Store};
 use obj_core::SimObject;
+use obj_exit::ExitDev;
 use obj_mem::Mem;
-use obj_uart::{ExitDev, Uart};
+use obj_uart::Uart;
 use session::gemcore;
 use std::alloc::Global;
 

@@ -1,2 +1,1 @@
-pub mod ShownExit
 pub mod ShownUart

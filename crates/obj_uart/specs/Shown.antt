@@ -1,21 +1,15 @@
--- The states that the devices show. This project's own rules.
+-- The state that a UART shows: that of a server with its device. This project's own rule.
 use Rattle.std.specs.Prelude.{Option, Some, None}
-use Rattle.gm_model.specs.ObjState.{ObjState, Blank, Exit, Uart, UartState}
+use Rattle.gm_model.specs.ObjState.{ObjState, Blank, Uart, UartState}
 use Rattle.gm_model.specs.declared.kind.Kind.TheVariants as kinds
 use Rattle.obj_server.specs.Server.{server_of}
-use Rattle.obj_uart.specs.declared.exit_dev.running.Running.{Running as RunningExit}
-use Rattle.obj_uart.specs.declared.uart.running.Running.{Running as RunningUart}
-
--- an exit device, blank or configured
-abbrev pub shown_exit : Option RunningExit → ObjState
-shown_exit None = Blank kinds.Exit
-shown_exit (Some r) = server_of r.server (Exit r.code)
+use Rattle.obj_uart.specs.declared.uart.running.Running.{Running}
 
 -- the device of a configured UART
-abbrev pub uart_of : RunningUart → UartState
+abbrev pub uart_of : Running → UartState
 uart_of r = record { chartime = r.chartime; busy = r.busy; input = r.input.items }
 
 -- a UART, blank or configured
-abbrev pub shown_uart : Option RunningUart → ObjState
+abbrev pub shown_uart : Option Running → ObjState
 shown_uart None = Blank kinds.Uart
 shown_uart (Some r) = server_of r.server (Uart (uart_of r))

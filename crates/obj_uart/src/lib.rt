@@ -1,14 +1,12 @@
-//! The UART and the exit device: two servers whose registers are a byte wide or a word.
+//! The UART as a part of the machine: a server with eight registers of one byte each.
 //!
-//! Its promise: each of them is a `SimObject` whose every call is the rule of a server in `gm_model` with the device
-//! `Uart` or `Exit`. What all servers share is in `obj_server`. Read `specs/Shown.antt` first, which says what state each of
-//! them shows. After `configure` neither takes memory.
+//! Its promise: each call of `Uart` is the rule of a server whose device is `Uart`, on the state that it shows. What all
+//! servers share is in `obj_server`. Read `specs/Shown.antt` first, which says what state that is; the rule itself is
+//! `specs/Serve.antt` of `gm_model`. Only `configure` takes memory: the places of the input.
 #![tactic(auto)]
 
-mod exit_dev;
 mod uart;
 
-pub use exit_dev::ExitDev;
 pub use uart::Uart;
 
 #[cfg(test)]

@@ -25,107 +25,158 @@ fn configuration(alloc: Global) -> Config {
     }
 }
 
-fn has_stops(alloc: Global, text: &[u8], wanted: &[Stop]) -> bool {
-    match read(alloc, text, &configuration(alloc)) {
-        Ok(script) => script.stops.items() == wanted,
-        Err(_) => false,
-    }
-}
-
-fn is_refused_at(alloc: Global, text: &[u8], wanted: u32) -> bool {
-    match read(alloc, text, &configuration(alloc)) {
-        Err(ScriptFault::Line { line }) => line == wanted,
+// Whether a text reads as these stops, or is refused at this line.
+fn reads_as(alloc: Global, text: &[u8], wanted: Result<&[Stop], u32>) -> bool {
+    match (read(alloc, text, &configuration(alloc)), wanted) {
+        (Ok(script), Ok(stops)) => script.stops.items() == stops,
+        (Err(ScriptFault::Line { line }), Err(number)) => line == number,
         _ => false,
     }
 }
 
+/// The stop of `run end`.
+const END: Stop = Stop::Run(Until::End);
+
+/// Scripts, each with the stops that it says, or the line that is refused.
+static SCRIPTS: [(&[u8], Result<&[Stop], u32>); 78] = [
+    // Empty lines, comments, and a last line without its line feed.
+    (b"", Ok(&[])),
+    (b"\n", Ok(&[])),
+    (b"\n\n", Ok(&[])),
+    (b"#", Ok(&[])),
+    (b"run end", Ok(&[END])),
+    (b"run end\n", Ok(&[END])),
+    (b"regs\n", Ok(&[Stop::Regs])),
+    (b"run end\nregs\n", Ok(&[END, Stop::Regs])),
+    (b"regs\nrun end", Ok(&[Stop::Regs, END])),
+    (
+        b"# a comment, \xff\xfe\r\n\nrun end\n\n#\nregs",
+        Ok(&[END, Stop::Regs]),
+    ),
+    // Numbers have one spelling, and are at most 2^62.
+    (b"run insts 0\n", Ok(&[Stop::Run(Until::Insts(0))])),
+    (b"run tick 0\n", Ok(&[Stop::Run(Until::Tick(0))])),
+    (b"run tick 3000\n", Ok(&[Stop::Run(Until::Tick(3_000))])),
+    (
+        b"run tick 4611686018427387904\n",
+        Ok(&[Stop::Run(Until::Tick(1 << 62))]),
+    ),
+    (
+        b"run insts 4611686018427387904\n",
+        Ok(&[Stop::Run(Until::Insts(1 << 62))]),
+    ),
+    (b"run tick 4611686018427387905\n", Err(1)),
+    (b"run insts 4611686018427387905\n", Err(1)),
+    (b"run tick 9223372036854775808\n", Err(1)),
+    (b"run insts 18446744073709551616\n", Err(1)),
+    (
+        b"run tick 100000000000000000000000000000000000000000\n",
+        Err(1),
+    ),
+    (b"run tick 00\n", Err(1)),
+    (b"run tick 01\n", Err(1)),
+    (b"run insts 007\n", Err(1)),
+    (b"run tick +1\n", Err(1)),
+    (b"run tick -1\n", Err(1)),
+    (b"run tick 1_000\n", Err(1)),
+    (b"run tick 1e3\n", Err(1)),
+    (b"run tick 1.0\n", Err(1)),
+    (b"run tick 0x1\n", Err(1)),
+    (b"run tick 0X1F\n", Err(1)),
+    (b"run tick 1f\n", Err(1)),
+    (b"run tick \xd9\xa1\n", Err(1)),
+    (b"run tick 1 2\n", Err(1)),
+    (b"run tick\n", Err(1)),
+    (b"run tick \n", Err(1)),
+    (b"run insts\n", Err(1)),
+    // One space stands between words, and none elsewhere.
+    (b" ", Err(1)),
+    (b"\t\n", Err(1)),
+    (b" # no comment", Err(1)),
+    (b"run  end\n", Err(1)),
+    (b"run  tick 1\n", Err(1)),
+    (b"run tick  1\n", Err(1)),
+    (b"run insts  1\n", Err(1)),
+    (b"run\tend\n", Err(1)),
+    (b"run tick\t1\n", Err(1)),
+    (b"\tregs\n", Err(1)),
+    (b"regs\t\n", Err(1)),
+    (b" run end\n", Err(1)),
+    (b"run end \n", Err(1)),
+    (b"run tick 1 \n", Err(1)),
+    (b"regs # no comment\n", Err(1)),
+    // Lines end by a line feed alone.
+    (b"run end\r\n", Err(1)),
+    (b"\r\n", Err(1)),
+    (b"regs\rregs\n", Err(1)),
+    (b"regs\n\r", Err(2)),
+    // Other words.
+    (b"run\n", Err(1)),
+    (b"run \n", Err(1)),
+    (b"Run end\n", Err(1)),
+    (b"REGS\n", Err(1)),
+    (b"regs 1\n", Err(1)),
+    (b"regsregs\n", Err(1)),
+    (b"runend\n", Err(1)),
+    (b"run end now\n", Err(1)),
+    (b"run end\n\0", Err(2)),
+    (b"\0\n", Err(1)),
+    (b"\xff\n", Err(1)),
+    (b"\xef\xbb\xbfregs\n", Err(1)),
+    // The first line that is refused is told, comments and empty lines being counted.
+    (b"run end\nregs\nregsregs\n", Err(3)),
+    (b"\n\n# a comment\nrun stop\n", Err(4)),
+    (b"regs\nrun\nreg\n", Err(2)),
+    (b"run tick 01\nrun  end\n", Err(1)),
+    (b"run  end\nrun tick 01\n", Err(1)),
+    (b"#\nregs\n#\nrun\n#\n", Err(4)),
+    // These come later.
+    (b"drain\n", Err(1)),
+    (b"stats\n", Err(1)),
+    (b"regs\nswitch atomic\n", Err(2)),
+    (b"regs\ncheckpoint a\n", Err(2)),
+    (b"trace on\n", Err(1)),
+];
+
 #[test]
-fn a_script_says_the_stops_of_its_lines(rt: HostRuntime) {
-    let end = Stop::Run(Until::End);
-    let cases: [(&[u8], &[Stop]); 13] = [
-        (b"", &[]),
-        (b"\n", &[]),
-        (b"run end", &[end]),
-        (b"run end\n", &[end]),
-        (b"regs\n", &[Stop::Regs]),
-        (b"run end\nregs\n", &[end, Stop::Regs]),
-        (b"regs\nrun end", &[Stop::Regs, end]),
-        (
-            b"# a comment, \xff\xfe\r\n\nrun end\n\n#\nregs",
-            &[end, Stop::Regs],
-        ),
-        (b"run insts 0\n", &[Stop::Run(Until::Insts(0))]),
-        (b"run tick 0\n", &[Stop::Run(Until::Tick(0))]),
-        (b"run tick 3000\n", &[Stop::Run(Until::Tick(3_000))]),
-        (
-            b"run tick 4611686018427387904\n",
-            &[Stop::Run(Until::Tick(1 << 62))],
-        ),
-        (
-            b"run insts 4611686018427387904\n",
-            &[Stop::Run(Until::Insts(1 << 62))],
-        ),
-    ];
-    for (text, wanted) in cases {
-        assert!(rt; has_stops(rt.alloc(), text, wanted));
+fn scripts_are_read_or_refused(rt: HostRuntime) {
+    for (text, wanted) in SCRIPTS {
+        assert!(rt; reads_as(rt.alloc(), text, wanted), "{text:?}");
     }
 }
 
+// A script has at most 256 lines, and a line at most 1024 bytes.
 #[test]
-fn the_first_line_of_no_form_is_told(rt: HostRuntime) {
-    let cases: [(&[u8], u32); 32] = [
-        (b" ", 1),
-        (b" # no comment", 1),
-        (b"run  end\n", 1),
-        (b"run\tend\n", 1),
-        (b"run end \n", 1),
-        (b" run end\n", 1),
-        (b"run end\r\n", 1),
-        (b"Run end\n", 1),
-        (b"REGS\n", 1),
-        (b"regs 1\n", 1),
-        (b"run\n", 1),
-        (b"run \n", 1),
-        (b"run tick\n", 1),
-        (b"run tick \n", 1),
-        (b"run tick 01\n", 1),
-        (b"run tick +1\n", 1),
-        (b"run tick 0x1\n", 1),
-        (b"run tick 1 2\n", 1),
-        (b"run tick  1\n", 1),
-        (b"run tick 4611686018427387905\n", 1),
-        (b"run insts 4611686018427387905\n", 1),
-        (b"run insts 18446744073709551616\n", 1),
-        (b"run end now\n", 1),
-        (b"run end\nregs\nregsregs\n", 3),
-        (b"\n\n# a comment\nrun stop\n", 4),
-        (b"regs\nrun\nreg\n", 2),
-        (b"run end\n\0", 2),
-        // These come later.
-        (b"drain\n", 1),
-        (b"stats\n", 1),
-        (b"regs\nswitch atomic\n", 2),
-        (b"regs\ncheckpoint a\n", 2),
-        (b"trace on\n", 1),
-    ];
-    for (text, wanted) in cases {
-        assert!(rt; is_refused_at(rt.alloc(), text, wanted));
-    }
-}
-
-#[test]
-fn lines_and_their_bytes_are_limited(rt: HostRuntime) {
+fn long_scripts_are_read_or_refused(rt: HostRuntime) {
     let alloc = rt.alloc();
-    let empty_lines = [b'\n'; 257];
-    assert!(rt; has_stops(alloc, &empty_lines[..256], &[]));
-    assert!(rt; is_refused_at(alloc, &empty_lines, 257));
-
-    let mut comments = [b'#'; 1_028];
-    comments[1] = b'\n';
-    assert!(rt; has_stops(alloc, &comments[..1_026], &[]));
-    assert!(rt; is_refused_at(alloc, &comments[..1_027], 2));
-    comments[1_026] = b'\n';
-    assert!(rt; has_stops(alloc, &comments, &[]));
+    let empty = [b'\n'; 257];
+    // The word `regs` alone in line 256, and in line 257.
+    let (mut last, mut past) = ([b'\n'; 260], [b'\n'; 260]);
+    last[255..259].copy_from_slice(b"regs");
+    past[256..].copy_from_slice(b"regs");
+    // A second line of 1026 bytes; and one of 1024, which is ended by its line feed.
+    let mut comment = [b'#'; 1_028];
+    comment[1] = b'\n';
+    let mut ended = comment;
+    ended[1_026] = b'\n';
+    let mut words = [b'0'; 1_025];
+    words[..9].copy_from_slice(b"run tick ");
+    let cases: [(&[u8], Result<&[Stop], u32>); 11] = [
+        (&empty[..256], Ok(&[])),
+        (&empty, Err(257)),
+        (&last[..259], Ok(&[Stop::Regs])),
+        (&last, Ok(&[Stop::Regs])),
+        (&past, Err(257)),
+        (&comment[..1_026], Ok(&[])),
+        (&comment[..1_027], Err(2)),
+        (&comment, Err(2)),
+        (&ended, Ok(&[])),
+        (&words[..1_024], Err(1)),
+        (&words, Err(1)),
+    ];
+    for (text, wanted) in cases {
+        assert!(rt; reads_as(alloc, text, wanted), "{} bytes", text.len());
+    }
 }
 
 #[test]

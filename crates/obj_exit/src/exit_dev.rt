@@ -19,7 +19,7 @@ pub struct ExitDev {
 }
 
 impl ExitDev {
-    ghost use Rattle.obj_uart.specs.Shown.{shown_exit};
+    ghost use Rattle.obj_exit.specs.Shown.{shown_exit};
     ghost use Rattle.gm_model.specs.ObjState.{Blank};
 
     // Set-up.
@@ -33,7 +33,7 @@ impl ExitDev {
 }
 
 impl SimObject for ExitDev {
-    ghost use Rattle.obj_uart.specs.Shown.{shown_exit};
+    ghost use Rattle.obj_exit.specs.Shown.{shown_exit};
 
     ghost state = { λ s. shown_exit s.inner };
 

@@ -38,7 +38,7 @@ impl Running {
     ghost use Rattle.gm_model.specs.Serve.{serve_exit};
     ghost use Rattle.gm_model.specs.ObjState.{Exit};
     ghost use Rattle.gm_model.specs.Command.{server_start};
-    ghost use Rattle.obj_uart.specs.Shown.{shown_exit};
+    ghost use Rattle.obj_exit.specs.Shown.{shown_exit};
     ghost use Rattle.rv_step.specs.Flat.{in_exit};
 
     // Set-up.

@@ -5,8 +5,8 @@ use Rattle.gm_model.specs.ObjState.{kind_of}
 use Rattle.gm_model.specs.ObjectStep.{functional_step}
 use Rattle.gm_model.specs.declared.kind.Kind.TheVariants as kinds
 use Rattle.gm_model.specs.declared.packet.Packet.{Packet}
-use Rattle.obj_uart.specs.Shown.{shown_exit}
-use Rattle.obj_uart.specs.declared.exit_dev.running.Running.{Running}
+use Rattle.obj_exit.specs.Shown.{shown_exit}
+use Rattle.obj_exit.specs.declared.exit_dev.running.Running.{Running}
 
 -- its kind
 pub exit_is_exit : (o : Option Running) → kind_of (shown_exit o) ≡ kinds.Exit
