@@ -1,21 +1,42 @@
-// Whole calls of `run`. The ticks are worked by hand from the latencies of the configuration.
+// Whole calls of the program, in one table. The ticks are worked by hand from the latencies of the configuration.
 use super::call;
-use crate::machine_tests::STORE_AND_EXIT;
 use gc_base::NoMemory;
 use gc_outside::{MemSink, MemStore};
 use std::alloc::{AllocError, Global};
 use std::process::Abort;
+use std::str;
 use std::test::Fail;
 
-/// A machine in atomic mode with 64 KiB of RAM and a budget of so many events.
+/// A machine with 64 KiB of RAM: its model, its budget, more keys of `cpu`, the latency of `corebus`, and more sections.
+macro_rules! config {
+    (model $model:literal, budget $budget:literal, cpu $cpu:literal, corebus $corebus:literal, and $sections:literal) => {
+        concat!(
+            "[system]\nline = 16\nmodel = \"",
+            $model,
+            "\"\nram = 65536\nbudget = ",
+            $budget,
+            "\n[cpu]\nperiod = 1000\n",
+            $cpu,
+            "[corebus]\nlatency = ",
+            $corebus,
+            "\n[membus]\nlatency = 100\n[mem]\nlatency = 500\nqueue = 1\n\
+[uart]\nlatency = 200\nchartime = 1000\n[timer]\nlatency = 200\nperiod = 100\n[exit]\nlatency = 50\n",
+            $sections
+        )
+    };
+}
+
+/// A machine in atomic mode with a budget of so many events.
 macro_rules! config_of_budget {
     ($budget:literal) => {
-        concat!(
-            "[system]\nline = 16\nmodel = \"atomic\"\nram = 65536\nbudget = ",
-            $budget,
-            "\n[cpu]\nperiod = 1000\n[corebus]\nlatency = 100\n[membus]\nlatency = 100\n[mem]\nlatency = 500\nqueue = 1\n\
-[uart]\nlatency = 200\nchartime = 1000\n[timer]\nlatency = 200\nperiod = 100\n[exit]\nlatency = 50\n"
-        )
+        config!(model "atomic", budget $budget, cpu "", corebus "100", and "")
+    };
+}
+
+/// The same machine with more sections.
+macro_rules! config_and {
+    ($sections:literal) => {
+        config!(model "atomic", budget "1000000", cpu "", corebus "100", and $sections)
     };
 }
 
@@ -30,114 +51,402 @@ macro_rules! and_registers {
 }
 
 /// The machine of the tests.
-pub(crate) static CONFIG: &str = config_of_budget!("1000000");
+pub(crate) const ATOMIC: &str = config_of_budget!("1000000");
 
-/// The files of a call, of which the script is this one.
-pub(crate) fn files(
-    rt: &(impl Abort + AllocGlobal),
-    config: &str,
-    script: &str,
-) -> Result<MemStore, NoMemory> {
-    let mut store = MemStore::new(rt.alloc(), 2_000)?;
-    assert!(rt; store.add("config", config.as_bytes()));
-    assert!(rt; store.add("script", script.as_bytes()));
-    assert!(rt; store.add("image", &STORE_AND_EXIT));
-    Ok(store)
+/// The same in timing mode.
+pub(crate) const TIMING: &str =
+    config!(model "timing", budget "1000000", cpu "", corebus "100", and "");
+
+/// The same with a DMA engine.
+pub(crate) const DMA: &str = config_and!("[dma]\nlatency = 50\nperiod = 1000\nwindow = 4\n");
+
+/// The same with a cache.
+const CACHE: &str = config_and!(
+    "[cache1]\nsets = 1\nways = 1\nmshrs = 1\ntargets = 1\nwriteq = 1\nlatency = 10\n"
+);
+
+/// The same with a second cache and no first one.
+const SECOND_CACHE: &str = config_and!(
+    "[cache2]\nsets = 1\nways = 1\nmshrs = 1\ntargets = 1\nwriteq = 1\nlatency = 10\n"
+);
+
+/// The same with two faults, of which the one that stands later is the first by its path.
+const TWO_FAULTS: &str =
+    config!(model "atomic", budget "1000000", cpu "speed = 1\n", corebus "0", and "");
+
+/// Stores the byte 1 to the UART, and exits with 0.
+pub(crate) const STORE_AND_EXIT: [u8; 20] = [
+    0x37, 0x05, 0x00, 0x10, // lui x10, 0x10000
+    0x93, 0x02, 0x10, 0x00, // addi x5, x0, 1
+    0x23, 0x00, 0x55, 0x00, // sb x5, 0(x10)
+    0xb7, 0x05, 0x10, 0x00, // lui x11, 0x100
+    0x23, 0xa0, 0x05, 0x00, // sw x0, 0(x11)
+];
+
+/// What is in a file.
+#[derive(Clone, Copy)]
+pub(crate) enum Content {
+    Text(&'static str),
+    Bytes(&'static [u8]),
+    /// A text, and behind it a comment, of so many bytes together.
+    Padded(&'static str, usize),
 }
 
-/// The words that name the files.
-pub(crate) fn words(alloc: Global) -> Result<Vec<String>, AllocError> {
+use Content::{Bytes, Padded, Text};
+
+impl Content {
+    /// The bytes of the file.
+    fn bytes(self, alloc: Global) -> Result<Vec<u8>, AllocError> {
+        match self {
+            Text(text) => Vec::from_slice(alloc, text.as_bytes()),
+            Bytes(bytes) => Vec::from_slice(alloc, bytes),
+            Padded(text, length) => {
+                let mut bytes = Vec::from_slice(alloc, text.as_bytes())?;
+                bytes.resize(length, b'#')?;
+                Ok(bytes)
+            }
+        }
+    }
+}
+
+/// The numbers of the calls that are to fail, of each counted from 0.
+#[derive(Clone, Copy)]
+pub(crate) struct Faults {
+    store: Option<u64>,
+    console: Option<u64>,
+    report: Option<u64>,
+}
+
+/// A file's name, and what is in it.
+type File = (&'static str, Content);
+
+/// A call, and what it answers and writes.
+#[derive(Clone, Copy)]
+pub(crate) struct Case {
+    /// What the case shows.
+    pub(crate) name: &'static str,
+    pub(crate) files: &'static [File],
+    pub(crate) words: &'static [&'static str],
+    pub(crate) faults: Faults,
+    pub(crate) status: u8,
+    pub(crate) console: &'static [u8],
+    pub(crate) report: &'static str,
+    /// Files as they are after the call, and those that aren't there.
+    pub(crate) left: &'static [(&'static str, Option<&'static [u8]>)],
+}
+
+/// Nothing fails.
+const NO_FAULTS: Faults = Faults {
+    store: None,
+    console: None,
+    report: None,
+};
+
+// What most cases have.
+pub(crate) const CONFIG: File = ("config", Text(ATOMIC));
+
+pub(crate) const IMAGE: File = ("image", Bytes(&STORE_AND_EXIT));
+
+pub(crate) const RUN_END: File = ("script", Text("run end\n"));
+
+const RUN_END_AND_REGS: File = ("script", Text("run end\nregs\n"));
+
+const RUN: &[&str] = &["run", "config", "image", "script"];
+
+/// A call of `run` that writes nothing.
+pub(crate) const SILENT: Case = Case {
+    name: "empty_script",
+    files: &[CONFIG, IMAGE, ("script", Text(""))],
+    words: RUN,
+    faults: NO_FAULTS,
+    status: 0,
+    console: b"",
+    report: "",
+    left: &[],
+};
+
+static CASES: [Case; 22] = [
+    SILENT,
+    Case {
+        name: "blank_script",
+        files: &[CONFIG, IMAGE, ("script", Text("# nothing\n\n"))],
+        ..SILENT
+    },
+    Case {
+        name: "atomic_run",
+        files: &[CONFIG, IMAGE, RUN_END_AND_REGS],
+        console: b"\x01",
+        report: and_registers!("run exit 0 at 8200 insts 5 events 6\n"),
+        ..SILENT
+    },
+    Case {
+        name: "run_to_instructions_and_ticks",
+        files: &[
+            CONFIG,
+            IMAGE,
+            (
+                "script",
+                Text("regs\nrun insts 2\nrun tick 4400\nrun end\nrun end"),
+            ),
+        ],
+        console: b"\x01",
+        report: "pc 0000000080000000\nmstatus 0000000000001800\n\
+run insts at 2700 insts 2 events 2\n\
+run tick at 4400 insts 1 events 1\n\
+run exit 0 at 8200 insts 2 events 3\n\
+run exit 0 at 8200 insts 0 events 0\n",
+        ..SILENT
+    },
+    Case {
+        name: "run_to_before_the_first_event",
+        files: &[CONFIG, IMAGE, ("script", Text("run tick 999\n"))],
+        report: "run tick at 0 insts 0 events 0\n",
+        ..SILENT
+    },
+    Case {
+        name: "run_to_between_two_events",
+        files: &[
+            CONFIG,
+            IMAGE,
+            ("script", Text("run tick 3000\nrun insts 1\nrun end\n")),
+        ],
+        console: b"\x01",
+        report: "run tick at 2700 insts 2 events 2\n\
+run insts at 4400 insts 1 events 1\n\
+run exit 0 at 8200 insts 2 events 3\n",
+        ..SILENT
+    },
+    Case {
+        name: "run_limit",
+        files: &[("config", Text(config_of_budget!("3"))), IMAGE, RUN_END],
+        console: b"\x01",
+        report: "run limit at 4400 insts 3 events 3\n",
+        ..SILENT
+    },
+    Case {
+        name: "run_limit_for_each_run",
+        files: &[
+            ("config", Text(config_of_budget!("3"))),
+            IMAGE,
+            ("script", Text("run end\nrun end\nregs\n")),
+        ],
+        console: b"\x01",
+        report: and_registers!(
+            "run limit at 4400 insts 3 events 3\nrun exit 0 at 8200 insts 2 events 3\n"
+        ),
+        ..SILENT
+    },
+    Case {
+        name: "run_limit_after_a_tick",
+        files: &[
+            ("config", Text(config_of_budget!("1"))),
+            IMAGE,
+            ("script", Text("run tick 0\nrun end\n")),
+        ],
+        report: "run tick at 0 insts 0 events 0\nrun limit at 1000 insts 1 events 1\n",
+        ..SILENT
+    },
+    Case {
+        name: "missing_cache",
+        files: &[("config", Text(CACHE)), IMAGE, RUN_END],
+        status: 11,
+        report: "part cache\n",
+        ..SILENT
+    },
+    Case {
+        name: "missing_timing_cpu",
+        files: &[("config", Text(TIMING)), IMAGE, RUN_END],
+        status: 11,
+        report: "part timing\n",
+        ..SILENT
+    },
+    Case {
+        name: "missing_dma_engine",
+        files: &[("config", Text(DMA)), IMAGE, RUN_END],
+        status: 11,
+        report: "part dma\n",
+        ..SILENT
+    },
+    Case {
+        name: "config_first_fault",
+        files: &[("config", Text(TWO_FAULTS)), IMAGE, RUN_END],
+        status: 3,
+        report: "config value corebus.latency\n",
+        ..SILENT
+    },
+    Case {
+        name: "second_cache_alone",
+        files: &[("config", Text(SECOND_CACHE)), IMAGE, RUN_END],
+        status: 3,
+        report: "config shape cache2\n",
+        ..SILENT
+    },
+    Case {
+        name: "missing_config",
+        files: &[IMAGE, RUN_END],
+        status: 7,
+        report: "file config absent\n",
+        left: &[("config", None), ("image", Some(&STORE_AND_EXIT))],
+        ..SILENT
+    },
+    Case {
+        name: "longest_config",
+        files: &[("config", Padded(ATOMIC, 65_536)), IMAGE, RUN_END],
+        console: b"\x01",
+        report: "run exit 0 at 8200 insts 5 events 6\n",
+        ..SILENT
+    },
+    Case {
+        name: "too_long_config",
+        files: &[("config", Padded(ATOMIC, 65_537)), IMAGE, RUN_END],
+        status: 7,
+        report: "file config long\n",
+        ..SILENT
+    },
+    Case {
+        name: "refused_line",
+        files: &[CONFIG, IMAGE, ("script", Text("run end\nrun  end\n"))],
+        status: 5,
+        report: "script line 2\n",
+        ..SILENT
+    },
+    Case {
+        name: "failing_store",
+        files: &[CONFIG, IMAGE, RUN_END],
+        faults: Faults {
+            store: Some(1),
+            ..NO_FAULTS
+        },
+        status: 8,
+        report: "store script\n",
+        ..SILENT
+    },
+    Case {
+        name: "failing_console",
+        files: &[CONFIG, IMAGE, RUN_END_AND_REGS],
+        faults: Faults {
+            console: Some(0),
+            ..NO_FAULTS
+        },
+        status: 9,
+        ..SILENT
+    },
+    Case {
+        name: "failing_report",
+        files: &[CONFIG, IMAGE, RUN_END_AND_REGS],
+        faults: Faults {
+            report: Some(0),
+            ..NO_FAULTS
+        },
+        status: 9,
+        console: b"\x01",
+        ..SILENT
+    },
+    Case {
+        name: "failing_report_of_registers",
+        files: &[CONFIG, IMAGE, RUN_END_AND_REGS],
+        faults: Faults {
+            report: Some(1),
+            ..NO_FAULTS
+        },
+        status: 9,
+        console: b"\x01",
+        report: "run exit 0 at 8200 insts 5 events 6\n",
+        ..SILENT
+    },
+];
+
+/// Where the bytes of a call go.
+#[derive(Drop)]
+pub(crate) struct Sinks {
+    pub(crate) console: MemSink,
+    pub(crate) report: MemSink,
+}
+
+impl Sinks {
+    /// Two sinks with room for the bytes of each case.
+    pub(crate) fn new(alloc: Global) -> Result<Sinks, NoMemory> {
+        Ok(Sinks {
+            console: MemSink::new(alloc, 100)?,
+            report: MemSink::new(alloc, 1_000)?,
+        })
+    }
+}
+
+/// The words of a call.
+pub(crate) fn words_of(alloc: Global, case: &Case) -> Result<Vec<String>, AllocError> {
     let mut words = Vec::new(alloc);
-    for word in ["run", "config", "image", "script"] {
+    for word in case.words {
         words.push(word.to_string(alloc)?)?;
     }
     Ok(words)
 }
 
-/// A configuration, a script, and what the console and the report take.
-type Case = (&'static str, &'static str, &'static [u8], &'static str);
+/// A store with the files of a call.
+pub(crate) fn store_of(rt: &(impl Abort + AllocGlobal), case: &Case) -> Result<MemStore, NoMemory> {
+    let mut store = MemStore::new(rt.alloc(), 70_000)?;
+    for (name, content) in case.files {
+        let bytes = content.bytes(rt.alloc())?;
+        assert!(rt; store.add(name, bytes.as_slice()), "{name}");
+    }
+    Ok(store)
+}
 
-static CASES: [Case; 5] = [
-    (
-        config_of_budget!("1000000"),
-        "run end\nregs\n",
-        b"\x01",
-        and_registers!("run exit 0 at 8200 insts 5 events 6\n"),
-    ),
-    (config_of_budget!("1000000"), "# nothing\n\n", b"", ""),
-    (
-        config_of_budget!("1000000"),
-        "regs\nrun insts 2\nrun tick 4400\nrun end\nrun end",
-        b"\x01",
-        "pc 0000000080000000\nmstatus 0000000000001800\n\
-run insts at 2700 insts 2 events 2\n\
-run tick at 4400 insts 1 events 1\n\
-run exit 0 at 8200 insts 2 events 3\n\
-run exit 0 at 8200 insts 0 events 0\n",
-    ),
-    (
-        config_of_budget!("3"),
-        "run end\nrun end\nregs\n",
-        b"\x01",
-        and_registers!("run limit at 4400 insts 3 events 3\nrun exit 0 at 8200 insts 2 events 3\n"),
-    ),
-    (
-        config_of_budget!("1"),
-        "run tick 0\nrun end\n",
-        b"",
-        "run tick at 0 insts 0 events 0\nrun limit at 1000 insts 1 events 1\n",
-    ),
-];
+/// Has the calls fail that are to fail.
+fn plan_faults(rt: &impl Abort, faults: Faults, store: &mut MemStore, sinks: &mut Sinks) {
+    if let Some(call) = faults.store {
+        assert!(rt; store.fail_at(call));
+    }
+    if let Some(call) = faults.console {
+        assert!(rt; sinks.console.fail_at(call));
+    }
+    if let Some(call) = faults.report {
+        assert!(rt; sinks.report.fail_at(call));
+    }
+}
 
-#[test]
-fn a_script_is_carried_out(rt: HostRuntime) -> Result<(), Fail> {
-    for (config, script, bytes, lines) in &CASES {
-        let mut store = files(&rt, config, script)?;
-        let words = words(rt.alloc())?;
-        let mut console = MemSink::new(rt.alloc(), 100)?;
-        let mut report = MemSink::new(rt.alloc(), 1_000)?;
-        let status = call(
-            rt.alloc(),
-            words.as_slice(),
-            &mut store,
-            &mut console,
-            &mut report,
-        )?;
-        assert_eq!(rt; report.bytes(), lines.as_bytes());
-        assert_eq!(rt; console.bytes(), *bytes);
-        assert_eq!(rt; status, 0);
+/// Compares what a call answered and left with its case.
+pub(crate) fn expect_left(
+    rt: &impl Abort,
+    case: &Case,
+    status: u8,
+    store: &MemStore,
+    sinks: &Sinks,
+) -> Result<(), Fail> {
+    let report = str::from_utf8(sinks.report.bytes())?;
+    assert_eq!(rt; report, case.report, "{}", case.name);
+    assert_eq!(rt; sinks.console.bytes(), case.console, "{}", case.name);
+    assert_eq!(rt; status, case.status, "{}", case.name);
+    for (name, bytes) in case.left {
+        assert_eq!(rt; store.file(name), *bytes, "{name} after {}", case.name);
     }
     Ok(())
 }
 
+/// Makes the call of a case over a store, and compares what it answered and left.
+fn expect_call(
+    rt: &(impl Abort + AllocGlobal),
+    case: &Case,
+    store: &mut MemStore,
+) -> Result<(), Fail> {
+    let words = words_of(rt.alloc(), case)?;
+    let mut sinks = Sinks::new(rt.alloc())?;
+    plan_faults(rt, case.faults, store, &mut sinks);
+    let status = call(
+        rt.alloc(),
+        words.as_slice(),
+        store,
+        &mut sinks.console,
+        &mut sinks.report,
+    )?;
+    expect_left(rt, case, status, store, &sinks)
+}
+
 #[test]
-fn a_sink_that_fails_ends_the_script(rt: HostRuntime) -> Result<(), Fail> {
-    let line = "run exit 0 at 8200 insts 5 events 6\n";
-    for (of_console, of_report, bytes, lines) in [
-        (Some(0), None, b"".as_slice(), ""),
-        (None, Some(0), b"\x01".as_slice(), ""),
-        (None, Some(1), b"\x01".as_slice(), line),
-    ] {
-        let mut store = files(&rt, CONFIG, "run end\nregs\n")?;
-        let words = words(rt.alloc())?;
-        let mut console = MemSink::new(rt.alloc(), 100)?;
-        let mut report = MemSink::new(rt.alloc(), 1_000)?;
-        if let Some(call) = of_console {
-            assert!(rt; console.fail_at(call));
-        }
-        if let Some(call) = of_report {
-            assert!(rt; report.fail_at(call));
-        }
-        let status = call(
-            rt.alloc(),
-            words.as_slice(),
-            &mut store,
-            &mut console,
-            &mut report,
-        )?;
-        assert_eq!(rt; status, 9);
-        assert_eq!(rt; report.bytes(), lines.as_bytes());
-        assert_eq!(rt; console.bytes(), bytes);
+fn calls_write_what_the_rules_say(rt: HostRuntime) -> Result<(), Fail> {
+    for case in &CASES {
+        let mut store = store_of(&rt, case)?;
+        expect_call(&rt, case, &mut store)?;
     }
     Ok(())
 }
