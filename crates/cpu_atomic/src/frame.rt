@@ -1,8 +1,10 @@
 // A CPU that is configured, but for its hart: when its events come, and what an instruction does in turn.
-ghost use Rattle.std.specs.Prelude.{◌≡◌, ◌+◌, ◌^◌, ◌<◌, ◌≤◌, ◌∷◌, [], ◌++◌, IsTrue, true, None, Some, take};
+ghost use Rattle.std.specs.Prelude.{◌≡◌, ◌+◌, ◌^◌, ◌<◌, ◌≤◌, ◌∷◌, [], ◌++◌, IsTrue, true, None, Some, IfSome, take};
 ghost use Rattle.rv_step.specs.Bytes.{number as number_of};
 ghost use Rattle.ev_queue.specs.PendingList.{event, rescheduled};
 ghost use Rattle.ev_queue.specs.SlotTable.{gave};
+ghost use Rattle.rv_table.specs.Inst.{HasRegisters};
+ghost use Rattle.rv_table.specs.Table.{decode_of};
 ghost use Rattle.rv_step.specs.Demand.{need as need_of};
 ghost use Rattle.rv_step.specs.Trap.{interrupt_cause};
 ghost use Rattle.gm_model.specs.AtomicCpuStep.{cpu_ends, cpu_retires, cpu_traps, cpu_begins, cpu_fetched, cpu_accessed, cpu_line, goes_on};
@@ -13,7 +15,7 @@ ghost use Rattle.obj_core.specs.Out.{HasRoom, extended};
 ghost use Rattle.gc_base.specs.declared.limits.TheConstants.{PERIOD_MAX};
 ghost use Rattle.cpu_atomic.specs.Kept.{kept_latency};
 
-use crate::hart::{retire, set_line, trap};
+use crate::hart::{demand, retire, set_line, trap};
 use crate::octets::number;
 use crate::packets;
 use crate::stage::Stage;
@@ -22,7 +24,8 @@ use gc_base::limits::TOP;
 use gc_base::{ObjId, PortNo, Tick};
 use gm_model::{Act, Entry, Packet};
 use obj_core::Outbox;
-use rv_step::{Arch, Demand, need, take};
+use rv_step::{Arch, Demand, take};
+use rv_table::{Inst, decode};
 
 /// The port of the fetches.
 const FETCH: PortNo = PortNo(0);
@@ -59,6 +62,7 @@ pub struct Frame {
 }
 
 /// The tick that comes so many ticks later.
+#[inline(always)]
 fn later(now: Tick, d: u64) -> Tick
     requires now { now ≤ TOP }
     requires far { d ≤ 2 ^ 34 }
@@ -98,6 +102,7 @@ impl Frame {
     }
 
     /// The tick at which an instruction ends whose accesses took so long.
+    #[inline(always)]
     pub(crate) fn end(&self, now: Tick, latency: u64) -> Tick
         requires now { now ≤ TOP }
         requires latency { latency ≤ 2 ^ 33 }
@@ -109,6 +114,7 @@ impl Frame {
     // The end of an instruction.
 
     /// An instruction or a trap is over: the next event comes at a tick, unless the hart sleeps.
+    #[inline(always)]
     fn ends(&mut self, a: &Arch, at: Tick, e: Entry, q: &mut EventQueue, out: &mut Outbox)
         requires known { IsTrue (gave q.old.table self.old.object.0 0 50) }
         requires room { HasRoom out.old }
@@ -128,15 +134,19 @@ impl Frame {
     }
 
     /// The word at pc retires, with the number that its load got.
+    #[inline(always)]
     fn retires(
         &mut self,
         a: &mut Arch,
         at: Tick,
         word: u32,
+        inst: &Option<Inst>,
         v: u64,
         q: &mut EventQueue,
         out: &mut Outbox,
     )
+        requires decoded { inst.now ≡ decode_of word }
+        requires registers { IfSome inst.now HasRegisters }
         requires known { IsTrue (gave q.old.table self.old.object.0 0 50) }
         requires room { HasRoom out.old }
         ensures state { AtomicCpu (shown_frame self.new (Some a.new)) ≡ (cpu_retires (shown_frame self.old (Some a.old)) a.old out.old.next at word v).state }
@@ -144,8 +154,9 @@ impl Frame {
         ensures out { out.new ≡ extended out.old (cpu_retires (shown_frame self.old (Some a.old)) a.old out.old.next at word v).acts (cpu_retires (shown_frame self.old (Some a.old)) a.old out.old.next at word v).entries (cpu_retires (shown_frame self.old (Some a.old)) a.old out.old.next at word v).next }
         ensures answer { (cpu_retires (shown_frame self.old (Some a.old)) a.old out.old.next at word v).answer ≡ NothingAnswer }
     {
-        let entry = retire(a, word, v);
-        self.ends(a, at, entry, q, out);
+        let pc = a.pc;
+        retire(a, word, inst, v);
+        self.ends(a, at, Entry::Retired { pc, word }, q, out);
     }
 
     /// It traps.
@@ -172,6 +183,7 @@ impl Frame {
     // Requests and responses.
 
     /// Between two instructions: an interrupt is entered, or the next instruction begins.
+    #[inline(always)]
     pub(crate) fn begins(&mut self, a: &mut Arch, now: Tick, q: &mut EventQueue, out: &mut Outbox)
         requires known { IsTrue (gave q.old.table self.old.object.0 0 50) }
         requires room { HasRoom out.old }
@@ -188,6 +200,7 @@ impl Frame {
     }
 
     /// No interrupt is taken: the word at pc is fetched, or a fetch outside RAM traps.
+    #[inline(always)]
     fn fetches(&mut self, a: &mut Arch, now: Tick, q: &mut EventQueue, out: &mut Outbox)
         requires known { IsTrue (gave q.old.table self.old.object.0 0 50) }
         requires room { HasRoom out.old }
@@ -198,9 +211,12 @@ impl Frame {
         ensures answer { (cpu_begins (shown_frame self.old (Some a.old)) a.old out.old.next now None (is_in_ram self.old.ram a.old.pc 4)).answer ≡ NothingAnswer }
     {
         if packets::in_ram(self.ram, a.pc, 4) {
-            let pkt = packets::fetch(out.fresh(), a.pc);
             self.stage = Stage::AwaitFetch;
-            out.push(Act::Atomic { port: FETCH, pkt });
+            let id = out.fresh();
+            out.push(Act::Atomic {
+                port: FETCH,
+                pkt: packets::fetch(id, a.pc),
+            });
         } else {
             let (at, pc) = (self.end(now, 0), a.pc);
             self.traps(a, at, INSTRUCTION_ACCESS, pc, q, out);
@@ -208,6 +224,7 @@ impl Frame {
     }
 
     /// The word was fetched, which took a latency: what it asks for decides.
+    #[inline(always)]
     pub(crate) fn fetched(
         &mut self,
         a: &mut Arch,
@@ -227,23 +244,31 @@ impl Frame {
         ensures answer { (cpu_fetched (shown_frame self.old (Some a.old)) a.old out.old.next now latency word (need_of a.old word)).answer ≡ NothingAnswer }
     {
         let at = self.end(now, latency);
-        match need(a, word) {
-            Demand::Nothing | Demand::Sleep => self.retires(a, at, word, 0, q, out),
+        let inst = decode(word);
+        match demand(a, word, &inst) {
+            Demand::Nothing | Demand::Sleep => self.retires(a, at, word, &inst, 0, q, out),
             Demand::Load { addr, size } => {
-                let pkt = packets::load(out.fresh(), self.ram, addr, size);
                 self.stage = Stage::AwaitData { word, latency };
-                out.push(Act::Atomic { port: DATA, pkt });
+                let id = out.fresh();
+                out.push(Act::Atomic {
+                    port: DATA,
+                    pkt: packets::load(id, self.ram, addr, size),
+                });
             }
             Demand::Store { addr, size, value } => {
-                let pkt = packets::store(out.fresh(), self.ram, addr, size, value);
                 self.stage = Stage::AwaitData { word, latency };
-                out.push(Act::Atomic { port: DATA, pkt });
+                let id = out.fresh();
+                out.push(Act::Atomic {
+                    port: DATA,
+                    pkt: packets::store(id, self.ram, addr, size, value),
+                });
             }
             Demand::Trap { cause, tval } => self.traps(a, at, cause, tval, q, out),
         }
     }
 
     /// The data access of the word was served: it retires, or traps where the access was refused.
+    #[inline(always)]
     pub(crate) fn accessed(
         &mut self,
         a: &mut Arch,
@@ -260,19 +285,20 @@ impl Frame {
         ensures out { out.new ≡ extended out.old (cpu_accessed (shown_frame self.old (Some a.old)) a.old out.old.next at p.now word (need_of a.old word) p.now.fault).acts (cpu_accessed (shown_frame self.old (Some a.old)) a.old out.old.next at p.now word (need_of a.old word) p.now.fault).entries (cpu_accessed (shown_frame self.old (Some a.old)) a.old out.old.next at p.now word (need_of a.old word) p.now.fault).next }
         ensures answer { (cpu_accessed (shown_frame self.old (Some a.old)) a.old out.old.next at p.now word (need_of a.old word) p.now.fault).answer ≡ NothingAnswer }
     {
-        match need(a, word) {
+        let inst = decode(word);
+        match demand(a, word, &inst) {
             Demand::Load { addr, size } => {
                 if p.fault {
                     self.traps(a, at, LOAD_ACCESS, addr, q, out);
                 } else {
-                    self.retires(a, at, word, number(&p.bytes, size), q, out);
+                    self.retires(a, at, word, &inst, number(&p.bytes, size), q, out);
                 }
             }
             Demand::Store { addr, .. } => {
                 if p.fault {
                     self.traps(a, at, STORE_ACCESS, addr, q, out);
                 } else {
-                    self.retires(a, at, word, 0, q, out);
+                    self.retires(a, at, word, &inst, 0, q, out);
                 }
             }
             Demand::Nothing | Demand::Sleep | Demand::Trap { .. } => {}

@@ -1,12 +1,19 @@
 // What happens to the hart, and what is noted of it.
-ghost use Rattle.std.specs.Prelude.{◌≡◌, ◌^◌, IsTrue};
+ghost use Rattle.std.specs.Prelude.{◌≡◌, ◌^◌, IsTrue, IfSome};
+ghost use Rattle.rv_table.specs.Inst.{HasRegisters};
+ghost use Rattle.rv_table.specs.Table.{decode_of};
+ghost use Rattle.rv_step.specs.Demand.{need as need_of_word, IsFit};
 ghost use Rattle.rv_step.specs.Retire.{finish as finished};
 ghost use Rattle.rv_step.specs.Trap.{enter_trap as trapped};
 ghost use Rattle.gm_model.specs.HartLine.{is_line, with_line};
 ghost use Rattle.gm_model.specs.declared.entry.Entry.TheVariants as entries;
 
 use gm_model::Entry;
-use rv_step::{Arch, enter_trap, finish};
+use rv_step::{Arch, Demand, enter_trap, finish_of, need_of};
+use rv_table::Inst;
+
+/// The cause of a word that is no instruction, by the privileged manual's "Machine Cause Register".
+const ILLEGAL_INSTRUCTION: u64 = 2;
 
 // Bits of mip, by the privileged manual's "Machine Interrupt Registers".
 const SOFTWARE: u64 = 1 << 3;
@@ -15,14 +22,35 @@ const TIMER: u64 = 1 << 7;
 
 const EXTERNAL: u64 = 1 << 11;
 
-/// The word at pc retires, with the number that its load got: what is noted of it.
-pub(crate) fn retire(a: &mut Arch, word: u32, v: u64) -> Entry
-    ensures hart { a.new ≡ finished a.old word v }
-    ensures entry { result ≡ entries.Retired a.old.pc word }
+/// What a word asks for that was decoded.
+#[inline(always)]
+#[tactic(auto, unfolding(rv_step::specs::Demand::need))]
+pub(crate) fn demand(a: &Arch, word: u32, inst: &Option<Inst>) -> Demand
+    requires decoded { inst.now ≡ decode_of word }
+    requires registers { IfSome inst.now HasRegisters }
+    ensures value { result ≡ need_of_word a.now word }
+    ensures fit { IsFit result }
 {
-    let pc = a.pc;
-    finish(a, word, v);
-    Entry::Retired { pc, word }
+    match inst {
+        Some(i) => need_of(a, i, word),
+        None => Demand::Trap {
+            cause: ILLEGAL_INSTRUCTION,
+            tval: word as u64,
+        },
+    }
+}
+
+/// The word at pc retires, with the number that its load got.
+#[inline(always)]
+#[tactic(auto, unfolding(rv_step::specs::Retire::finish))]
+pub(crate) fn retire(a: &mut Arch, word: u32, inst: &Option<Inst>, v: u64)
+    requires decoded { inst.now ≡ decode_of word }
+    requires registers { IfSome inst.now HasRegisters }
+    ensures { a.new ≡ finished a.old word v }
+{
+    if let Some(i) = inst {
+        finish_of(a, i, v);
+    }
 }
 
 /// A trap is entered: what is noted of it.

@@ -5,6 +5,7 @@ ghost use Rattle.rv_step.specs.Width.{IsSize};
 ghost use Rattle.gm_model.specs.Packet.{with_front};
 
 /// The number of the first 4 bytes.
+#[inline(always)]
 pub(crate) fn word(m: &[u8]) -> u32
     requires { 4 ≤ length m.now }
     ensures { result ≡ number (take 4 m.now) }
@@ -13,6 +14,7 @@ pub(crate) fn word(m: &[u8]) -> u32
 }
 
 /// The number of the first 8 bytes.
+#[inline(always)]
 fn double(m: &[u8]) -> u64
     requires { 8 ≤ length m.now }
     ensures { result ≡ number (take 8 m.now) }
@@ -21,6 +23,7 @@ fn double(m: &[u8]) -> u64
 }
 
 /// The number of the first bytes, so many of them.
+#[inline(always)]
 pub(crate) fn number(m: &[u8], size: u8) -> u64
     requires inside { 8 ≤ length m.now }
     requires size { IsSize size }
@@ -35,6 +38,7 @@ pub(crate) fn number(m: &[u8], size: u8) -> u64
 }
 
 /// The low bytes of v, so many of them, are put in front.
+#[inline(always)]
 pub(crate) fn put_number(m: &mut [u8], size: u8, v: u64)
     requires inside { 8 ≤ length m.old }
     requires size { IsSize size }

@@ -19,6 +19,7 @@ const DATA: u8 = 1;
 const RAM_BASE: u64 = 0x8000_0000;
 
 /// Whether so many bytes at an address lie in RAM of this size.
+#[inline(always)]
 pub(crate) fn in_ram(ram: u32, addr: u64, count: u8) -> bool
     ensures { result ≡ is_in_ram ram addr count }
 {
@@ -26,6 +27,7 @@ pub(crate) fn in_ram(ram: u32, addr: u64, count: u8) -> bool
 }
 
 /// A new request, with no bytes yet.
+#[inline(always)]
 fn request(id: PktId, src: u8, cmd: Cmd, addr: u64, size: u8, uncached: bool) -> Packet
     ensures { result ≡ request_of id.0 src cmd addr size [] uncached }
 {
@@ -44,6 +46,7 @@ fn request(id: PktId, src: u8, cmd: Cmd, addr: u64, size: u8, uncached: bool) ->
 }
 
 /// The fetch of the word at pc.
+#[inline(always)]
 pub(crate) fn fetch(id: PktId, pc: u64) -> Packet
     ensures { result ≡ fetch_request id.0 pc }
 {
@@ -51,6 +54,7 @@ pub(crate) fn fetch(id: PktId, pc: u64) -> Packet
 }
 
 /// The data access of a load.
+#[inline(always)]
 pub(crate) fn load(id: PktId, ram: u32, addr: u64, size: u8) -> Packet
     ensures { result ≡ load_request ram id.0 addr size }
 {

@@ -60,6 +60,7 @@ impl Running {
     // Own events.
 
     /// Its event is served: it begins an instruction, where it is at rest and awake.
+    #[inline(always)]
     pub(crate) fn event(&mut self, now: Tick, q: &mut EventQueue, out: &mut Outbox)
         requires known { IsTrue (gave q.old.table self.old.frame.object.0 0 50) }
         requires room { HasRoom out.old }
@@ -80,6 +81,7 @@ impl Running {
     // Responses and interrupt lines.
 
     /// Its packet was served, which took a latency.
+    #[inline(always)]
     pub(crate) fn done(
         &mut self,
         now: Tick,
@@ -107,8 +109,10 @@ impl Running {
                 word,
                 latency: before,
             } => {
+                // A copy, so that the wakes that need none of the packet's bytes don't copy it.
+                let response = *p;
                 let at = self.frame.end(now, before + latency);
-                self.frame.accessed(a, at, p, word, q, out);
+                self.frame.accessed(a, at, &response, word, q, out);
             }
         }
     }

@@ -1,5 +1,4 @@
 pub mod Parts
-pub mod Sends
 pub mod EntryLemmas
 pub mod Allowed
 pub mod Delivered

@@ -9,7 +9,7 @@ use Rattle.gc_outside.specs.Told.{Told}
 use Rattle.gc_outside.specs.Sink.{Appends, AppendsFront}
 use Rattle.gc_outside.proofs.Outputs.{told_appends, told_appends_front, told_appends_nothing}
 use Rattle.gm_model.specs.Sys.{Sys}
-use Rattle.gm_model.specs.Deliver.{Delivery, Item}
+use Rattle.gm_model.specs.Deliver.{Delivery}
 use Rattle.gm_model.specs.Fire.{Ran, fire, fire_first, fire_due, fire_event, timed_run, taken_out, without_nth, event_begun, event_delivered, counted}
 use Rattle.gm_model.specs.Run.{RunEnd, EndsRun, run_to, reason_at, reason_for, exit_reason, due_reason, late_reason, has_retired, is_late, exit_of, retired_in, console_of, last_tick}
 use Rattle.gm_model.specs.AtomicMachine.{IsAtomicMachine, IsRunReplayed}
@@ -21,11 +21,9 @@ use Rattle.gm_model.specs.declared.goal.Reason.TheVariants as reasons
 use Rattle.gm_model.proofs.ConsoleBytes.{console-append, fire_bytes}
 use Rattle.gm_model.proofs.ReplayRuns.{runs_replayed}
 use Rattle.gm_model.proofs.RunEnds.{runs_end, run_is, budget_ends}
-use Rattle.gm_model.proofs.SoundEvents.{fire_sound, fire_few, begun_sound, delivered_sound, same_events}
+use Rattle.gm_model.proofs.SoundEvents.{fire_sound, fire_few, same_events}
 use Rattle.kernel.specs.Ends.{StopsWithin, TellsEnd}
 use Rattle.kernel.specs.Ready.{MayServe, HasEventsLeft, at_tick, without_first}
-use Rattle.kernel.specs.Shown.{items_of}
-use Rattle.kernel.specs.declared.item.Item.{Item as KeptItem}
 use Rattle.kernel.proofs.Allowed.{may_serve}
 use Rattle.kernel.proofs.Delivered.{deliver_counts}
 
@@ -36,10 +34,6 @@ first_taken (e ∷ es) = refl
 first_at : (es : List Due) (e : Due) → first es ≡ Some e → slice_get es 0 ≡ Some e
 first_at [] e h = cc
 first_at (f ∷ es) e h = h
-
-pub none_shown : (is : List KeptItem) → items_of is ≡ [] → is ≡ []
-none_shown [] e = refl
-none_shown (i ∷ is) e = cc
 
 -- the first event is popped: `b` is the machine without it
 module _ (s b : Sys) (e : Due) (table : List Slot) (h : IsSound s table) (events : HasEventsLeft s) (is : first s.pending ≡ Some e) (l : e.tick ≤ 4611703610613432320)
@@ -74,11 +68,6 @@ module _ (s b : Sys) (e : Due) (table : List Slot) (h : IsSound s table) (events
 
   pub fired_sound : (s' : Sys) (table' : List Slot) → s' ≡ (counted (event_delivered (at_tick e.tick b) e)).sys → table' ≡ table → IsSound s' table'
   fired_sound s' table' t u = rw (fired_sys s' t, fired_once, u) (fire_sound s table 0 e.tick h l)
-
-  pub fired_idle : (is' : List Item) → is' ≡ (event_delivered (at_tick e.tick b) e).items → is' ≡ []
-  fired_idle is' t =
-      let P : Sys → Type 0 = λ x. (event_delivered x e).items ≡ [] in
-      t ∙ subst P (sym taken) (delivered_sound (event_begun (taken_out s 0 e.tick) e) table (begun_sound s table 0 e.tick e h (first_at s.pending e is) l)).1
 
 -- the first event is replayed, if there is one
 pub first_replayed : (s : Sys) → IsAtomicMachine s [] → IsRunReplayed s (fire_first s)

@@ -1,9 +1,9 @@
 -- What one wake, or one packet that is passed on, needs in the middle of an event.
-use Rattle.std.specs.Prelude.{ℕ, ◌+◌, ◌*◌, ◌^◌, ◌<◌, ◌≤◌, List, [], ◌∷◌, ◌++◌, length}
+use Rattle.std.specs.Prelude.{ℕ, ◌+◌, ◌^◌, ◌<◌, ◌≤◌, List, [], ◌∷◌, ◌++◌, length}
 use Rattle.gc_base.specs.declared.limits.TheConstants.{LATENCY_MAX, TOP}
 use Rattle.ev_queue.specs.declared.slot.Slot.{Slot}
 use Rattle.gm_model.specs.Allowed.{MayWake, MayPass}
-use Rattle.gm_model.specs.Deliver.{Item, Delivery, sent_by}
+use Rattle.gm_model.specs.Deliver.{Item, Delivery, deliver_first}
 use Rattle.ev_queue.specs.PendingList.{rest}
 use Rattle.ev_queue.specs.declared.due.Due.{Due}
 use Rattle.gm_model.specs.Fire.{event_begun}
@@ -21,7 +21,6 @@ pub record IsReady (d : Delivery) (table : List Slot) (i : ℕ) : Type 0 where
   pub tick : d.sys.tick ≤ TOP
   pub numbers : d.sys.next + 16 < 2 ^ 64
   pub entries : length d.entries + 16 ≤ 64
-  pub items : length d.items ≤ 32
 
 -- and the wake may come to it
 pub record IsReadyForWake (d : Delivery) (table : List Slot) (i : ℕ) (w : Wake) : Type 0 where
@@ -34,26 +33,19 @@ pub record IsReadyForPacket (d : Delivery) (table : List Slot) (i : ℕ) (p : Pa
   pub packet : MayPass (object_at d.sys i) p
   pub latency : latency_of (object_at d.sys i) ≤ LATENCY_MAX
 
--- there is room for a response, and the latency of its way can be counted
-pub record HasRoomForResponse (d : Delivery) : Type 0 where
-  pub items : length d.items ≤ 32
-  pub latency : d.sys.router.latency ≤ 2 * LATENCY_MAX
-
 -- the same with this item in front of the others
 abbrev pub with_first : Item → Delivery → Delivery
 with_first i d = record d { items = i ∷ d.items }
 
--- and with one behind them
-abbrev pub with_last : Delivery → Item → Delivery
-with_last d i = record d { items = d.items ++ i ∷ [] }
-
--- a packet was passed to the object i, and its sender isn't told yet
+-- a packet was passed to the object i, which asks for nothing, and its sender isn't told yet
 abbrev pub passed_to : Delivery → ℕ → Packet → Delivery
-passed_to d i p = record {
-  sys = passed d.sys i p;
-  items = d.items ++ sent_by i (pass_at d.sys i p).acts;
-  entries = d.entries ++ (pass_at d.sys i p).entries;
-}
+passed_to d i p = record d { sys = passed d.sys i p; entries = d.entries ++ (pass_at d.sys i p).entries }
+
+-- the first item is delivered, and then the first of those that are left then, if one is
+abbrev pub delivered_twice : Delivery → Delivery
+delivered_twice d = next (next d) where
+  next : Delivery → Delivery
+  next e = deliver_first e e.items
 
 -- so few events were served since the counters began that no number of theirs runs out
 abbrev pub HasEventsLeft : Sys → Type 0

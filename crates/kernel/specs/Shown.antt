@@ -1,23 +1,13 @@
 -- A machine as the model sees it, and what is so of it between two calls.
-use Rattle.std.specs.Prelude.{◌≡◌, false, List, [], map}
+use Rattle.std.specs.Prelude.{◌≡◌, ℕ, false, List, [], map}
 use Rattle.std.specs.declared.alloc.Global.{Global}
 use Rattle.std.specs.declared.dyn_box.DynBox.{DynBox}
-use Rattle.gm_model.specs.Deliver.{Item, Sent, Done, Delivery}
+use Rattle.gm_model.specs.Deliver.{Item, Delivery, sent_by}
 use Rattle.gm_model.specs.ObjState.{ObjState}
 use Rattle.gm_model.specs.Sound.{IsSound}
 use Rattle.gm_model.specs.Sys.{Sys}
 use Rattle.gm_model.specs.declared.entry.Entry.{Entry}
-use Rattle.kernel.specs.declared.item.Item.{Item as KeptItem}
-use Rattle.kernel.specs.declared.item.Item.TheVariants as kept
 use Rattle.kernel.specs.declared.machine.Machine.{Machine}
-
--- an item as the model has it
-abbrev pub item_of : KeptItem → Item
-item_of (kept.Sent sender act) = Sent sender.0 act
-item_of (kept.Done sender packet latency) = Done sender.0 packet latency
-
-abbrev pub items_of : List KeptItem → List Item
-items_of is = map item_of is
 
 -- the machine as one value; `f` is what a boxed part shows, and nothing is traced yet
 abbrev pub sys_of : {I : Type 0} {D : I → Type 0} → (DynBox I Global D → ObjState) → Machine I D → Sys
@@ -33,9 +23,13 @@ sys_of f m = record {
   router = m.router;
 }
 
--- the machine in the middle of an event
-abbrev pub delivery_of : {I : Type 0} {D : I → Type 0} → (DynBox I Global D → ObjState) → Machine I D → Delivery
-delivery_of f m = record { sys = sys_of f m; items = items_of m.todo.items; entries = m.out.entries }
+-- the machine in the middle of an event, with these items still to be delivered
+abbrev pub delivery_of : {I : Type 0} {D : I → Type 0} → (DynBox I Global D → ObjState) → Machine I D → List Item → Delivery
+delivery_of f m items = record { sys = sys_of f m; items = items; entries = m.out.entries }
+
+-- the same, where these are the acts of the object i that are left in the outbox
+abbrev pub flight_of : {I : Type 0} {D : I → Type 0} → (DynBox I Global D → ObjState) → Machine I D → ℕ → Delivery
+flight_of f m i = delivery_of f m (sent_by i m.out.acts)
 
 -- what the last event noted
 abbrev pub entries_of : {I : Type 0} {D : I → Type 0} → Machine I D → List Entry

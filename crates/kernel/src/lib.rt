@@ -11,7 +11,6 @@ mod build;
 mod build_fault;
 mod deliver;
 mod entries;
-mod item;
 mod load;
 mod machine;
 mod pick;

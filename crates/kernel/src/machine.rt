@@ -1,14 +1,12 @@
 // The machine, and what it tells between two events.
 ghost use Rattle.std.specs.Prelude.{◌≡◌, ◌+◌, ◌-◌, ◌≤◌, [], length, take, drop, map};
-ghost use Rattle.std.specs.VecDeque.{deque_capacity};
 
 use crate::boxes::{arch_box, exit_box, read_box, resume_box, write_box};
-use crate::item::Item;
 use crate::router::Router;
 use ev_queue::EventQueue;
 use gc_base::Tick;
-use gm_model::Entry;
 use gm_model::platform::{ATOMIC_CPU, EXIT, MEMORY, RAM_BASE};
+use gm_model::{Act, Entry};
 use obj_core::{Outbox, SimObject};
 use probe_stats::Counters;
 use rv_step::Arch;
@@ -23,13 +21,12 @@ pub struct Machine {
     pub(crate) parts: Vec<Box<dyn SimObject>>,
     pub(crate) queue: EventQueue,
     pub(crate) out: Outbox,
-    pub(crate) todo: VecDeque<Item>,
+    /// For acts that wait for each other. In atomic mode none does: there is one at most, and it stays in the outbox.
+    pub(crate) todo: VecDeque<Act>,
     pub(crate) counters: Counters,
     pub(crate) router: Router,
     pub(crate) tick: Tick,
     pub(crate) draining: bool,
-    ghost quiet: { out.acts ≡ [] },
-    ghost room: { 64 ≤ deque_capacity todo },
 }
 
 impl Machine {

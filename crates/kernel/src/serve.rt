@@ -18,17 +18,16 @@ use crate::entries::{count, retired, told};
 use crate::machine::Machine;
 use crate::reason::{has_retired, late_reason};
 use crate::run_end::{Fired, RunEnd, RunFault};
-use crate::send::take_first;
 use ev_queue::Due;
-use gc_base::Tick;
+use gc_base::{ObjId, Tick};
 use gc_outside::Sink;
 use gm_model::{Goal, Reason, Wake};
 
-/// The most items that are delivered for one event.
-const ITEMS_MAX: u32 = 256;
+/// How often an act, and the response to it, are delivered for one event at most.
+const DELIVERIES_MAX: u32 = 128;
 
 impl Machine {
-    ghost use Rattle.kernel.specs.Shown.{sys_of, delivery_of, entries_of, items_of, IsMachine};
+    ghost use Rattle.kernel.specs.Shown.{sys_of, delivery_of, entries_of, flight_of, IsMachine};
 
     /// Serves the first pending event at its own tick, with all that it causes.
     pub fn fire(&mut self) -> Option<Fired>
@@ -61,41 +60,47 @@ impl Machine {
     }
 
     /// Serves an event that was taken out, at its own tick, with all that it causes.
+    #[inline(always)]
     fn serve(&mut self, due: &Due)
-        requires idle { self.old.todo.items ≡ [] }
-        requires event { MayServe (at_tick due.now.tick (sys_of state self.old)) due.now self.old.queue.table }
+        requires { MayServe (at_tick due.now.tick (sys_of state self.old)) due.now self.old.queue.table }
         ensures served { sys_of state self.new ≡ (counted (event_delivered (at_tick due.now.tick (sys_of state self.old)) due.now)).sys }
         ensures entries { entries_of self.new ≡ (event_delivered (at_tick due.now.tick (sys_of state self.old)) due.now).entries }
-        ensures delivered { items_of self.new.todo.items ≡ (event_delivered (at_tick due.now.tick (sys_of state self.old)) due.now).items }
         ensures table { self.new.queue.table ≡ self.old.queue.table }
+        ensures todo { self.new.todo.items ≡ self.old.todo.items }
     {
         self.begin(due.tick);
         self.wake(due.owner, Wake::Event { slot: due.slot });
-        self.deliver();
+        self.deliver(due.owner);
         count(&mut self.counters, self.out.entries());
     }
 
-    /// Stands at the tick of an event, which has noted nothing yet.
+    /// Stands at the tick of an event, which has asked for nothing and noted nothing yet.
+    #[inline(always)]
     fn begin(&mut self, tick: Tick)
-        requires { self.old.todo.items ≡ [] }
-        ensures begun { delivery_of state self.new ≡ not_begun (at_tick tick (sys_of state self.old)) }
+        ensures begun { delivery_of state self.new [] ≡ not_begun (at_tick tick (sys_of state self.old)) }
+        ensures quiet { self.new.out.acts ≡ [] }
         ensures table { self.new.queue.table ≡ self.old.queue.table }
+        ensures todo { self.new.todo.items ≡ self.old.todo.items }
     {
         self.tick = tick;
+        self.out.clear_acts();
         self.out.clear_entries();
     }
 
-    /// Delivers the items in order, and those that they cause.
-    fn deliver(&mut self)
-        requires { IsUnderWay (delivery_of state self.old) self.old.queue.table }
-        ensures delivered { delivery_of state self.new ≡ deliver items_max (delivery_of state self.old) }
+    /// Delivers the act that a sender asked for, and those that it causes one after another.
+    #[inline(always)]
+    fn deliver(&mut self, sender: ObjId)
+        requires { IsUnderWay (flight_of state self.old sender.0) self.old.queue.table }
+        ensures delivered { delivery_of state self.new [] ≡ deliver items_max (flight_of state self.old sender.0) }
         ensures table { self.new.queue.table ≡ self.old.queue.table }
+        ensures todo { self.new.todo.items ≡ self.old.todo.items }
     {
-        'items: for _n in 0..ITEMS_MAX {
-            let Some(item) = take_first(&mut self.todo) else {
+        let mut sender = sender;
+        'acts: for _n in 0..DELIVERIES_MAX {
+            let Some(next) = self.deliver_act(sender) else {
                 break;
             };
-            self.deliver_item(item);
+            sender = next;
         }
     }
 

@@ -1,11 +1,10 @@
 // What a part asks for and notes when it is woken.
-ghost use Rattle.std.specs.Prelude.{◌≡◌, ◌+◌, ◌-◌, ◌^◌, ◌<◌, List, [], ◌∷◌, ◌++◌, length, IfOk};
+ghost use Rattle.std.specs.Prelude.{◌≡◌, ◌+◌, ◌-◌, ◌^◌, ◌<◌, List, [], ◌∷◌, ◌++◌, length, drop, IfOk, IfSome, IfNone};
 ghost use Rattle.obj_core.specs.Out.{empty_outbox, TakesOldest};
 
 use gc_base::{NoMemory, PktId};
 use gm_model::{Act, Entry};
 use std::alloc::Global;
-use std::collections::VecDeque;
 use std::marker::Model;
 
 /// How many acts, and how many entries, an outbox has room for.
@@ -14,21 +13,20 @@ const ROOM: usize = 64;
 /// What a part asks for and notes when it is woken, in order, and the next packet number.
 #[derive(Drop)]
 pub struct Outbox {
-    acts: VecDeque<Act>,
+    acts: Vec<Act>,
     entries: Vec<Entry>,
     next: PktId,
 }
 
 impl Model for Outbox {
     ghost use Rattle.std.specs.Prelude.{vec_capacity};
-    ghost use Rattle.std.specs.VecDeque.{deque_capacity};
     ghost use Rattle.obj_core.specs.Out.{Out, NeedsNoMemory};
 
     ghost Value = { Out };
 
     ghost view = { λ o. record { acts = o.acts.items; entries = o.entries.items; next = o.next.0 } };
 
-    ghost invariant = { λ o. NeedsNoMemory (deque_capacity o.acts) (vec_capacity o.entries) };
+    ghost invariant = { λ o. NeedsNoMemory (vec_capacity o.acts) (vec_capacity o.entries) };
 }
 
 impl Outbox {
@@ -37,29 +35,32 @@ impl Outbox {
         ensures { IfOk result (λ o. o ≡ empty_outbox) }
     {
         Ok(Outbox {
-            acts: VecDeque::with_capacity(alloc, ROOM)?,
+            acts: Vec::with_capacity(alloc, ROOM)?,
             entries: Vec::with_capacity(alloc, ROOM)?,
             next: PktId(0),
         })
     }
 
     /// Asks for an act, after those that were asked for before.
+    #[inline(always)]
     pub fn push(&mut self, act: Act)
         requires { length self.old.acts < 64 }
         ensures { self.new ≡ record self.old { acts = self.old.acts ++ act ∷ [] } }
     {
-        let _ = self.acts.push_back(act);
+        self.acts.push_reserved(act);
     }
 
     /// Notes an entry, after those that were noted before.
+    #[inline(always)]
     pub fn note(&mut self, entry: Entry)
         requires { length self.old.entries < 64 }
         ensures { self.new ≡ record self.old { entries = self.old.entries ++ entry ∷ [] } }
     {
-        let _ = self.entries.push(entry);
+        self.entries.push_reserved(entry);
     }
 
     /// Draws the next packet number.
+    #[inline(always)]
     pub fn fresh(&mut self) -> PktId
         requires { self.old.next < 2 ^ 64 - 1 }
         ensures number { result.0 ≡ self.old.next }
@@ -71,13 +72,41 @@ impl Outbox {
     }
 
     /// Takes the oldest act out, if one is left.
+    #[inline(always)]
     pub fn take_act(&mut self) -> Option<Act>
         ensures { TakesOldest self.old result self.new }
     {
-        self.acts.pop_front()
+        match self.acts.len() {
+            0 => None,
+            // One alone is the last too, and taking that moves no other.
+            1 => self.acts.pop(),
+            _ => Some(self.acts.remove(0)),
+        }
+    }
+
+    /// The oldest act, if one is left, lent.
+    #[inline(always)]
+    pub fn oldest(&self) -> Option<&Act>
+        ensures some { IfSome result (λ a. self.now.acts ≡ a.now ∷ drop 1 self.now.acts) }
+        ensures none { IfNone result (self.now.acts ≡ []) }
+    {
+        if self.acts.is_empty() {
+            None
+        } else {
+            Some(&self.acts[0])
+        }
+    }
+
+    /// Removes the acts.
+    #[inline(always)]
+    pub fn clear_acts(&mut self)
+        ensures { self.new ≡ record self.old { acts = [] } }
+    {
+        self.acts.clear();
     }
 
     /// The entries in order, lent.
+    #[inline(always)]
     pub fn entries(&self) -> &[Entry]
         ensures { result.now ≡ self.now.entries }
     {
@@ -85,6 +114,7 @@ impl Outbox {
     }
 
     /// Removes the entries.
+    #[inline(always)]
     pub fn clear_entries(&mut self)
         ensures { self.new ≡ record self.old { entries = [] } }
     {
@@ -124,6 +154,10 @@ mod tests {
         assert_eq!(rt; out.entries(), [Entry::Slept].as_slice());
         assert_eq!(rt; out.fresh(), PktId(0));
         assert_eq!(rt; out.fresh(), PktId(1));
+        out.push(second);
+        assert_eq!(rt; out.oldest(), Some(&second));
+        out.clear_acts();
+        assert_eq!(rt; out.oldest(), None);
         out.restart();
         out.clear_entries();
         assert_eq!(rt; out.fresh(), PktId(0));

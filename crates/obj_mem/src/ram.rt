@@ -41,6 +41,7 @@ impl Ram {
     }
 
     /// Whether so many bytes at an address lie in RAM.
+    #[inline(always)]
     pub(crate) fn holds(&self, addr: u64, size: u8) -> bool
         ensures { result ≡ in_ram self.now addr size }
     {
@@ -51,6 +52,7 @@ impl Ram {
     // Requests.
 
     /// The bytes at an address.
+    #[inline(always)]
     pub(crate) fn bytes_at(&self, addr: u64, size: u8) -> &[u8]
         requires { IsTrue (in_ram self.now addr size) }
         ensures { result.now ≡ ram_bytes self.now addr size }
@@ -60,6 +62,7 @@ impl Ram {
     }
 
     /// Keeps what a write that lies in RAM carries.
+    #[inline(always)]
     pub(crate) fn keep(&mut self, p: &Packet)
         requires size { p.now.size ≤ 64 }
         requires within { IsTrue (in_ram self.old p.now.addr p.now.size) }
@@ -80,13 +83,18 @@ impl Ram {
         to.copy_from_slice(&self.bytes[first..first + to.len()]);
     }
 
-    /// Sets the bytes from a place on.
+    /// Sets the bytes from a place on. Most are 4 or 8, a length that is known beforehand.
+    #[inline(always)]
     pub(crate) fn put(&mut self, at: u64, from: &[u8])
         requires { at + length from.now ≤ length self.old }
         ensures value { self.new ≡ with_bytes_at self.old at from.now }
         ensures size { length self.new ≡ length self.old }
     {
         let first = at as usize;
-        self.bytes[first..first + from.len()].copy_from_slice(from);
+        match from.len() {
+            4 => self.bytes[first..first + 4].copy_from_slice(from),
+            8 => self.bytes[first..first + 8].copy_from_slice(from),
+            n => self.bytes[first..first + n].copy_from_slice(from),
+        }
     }
 }

@@ -12,6 +12,7 @@ use obj_server::{answer_read, answer_write, refuse};
 
 impl Ram {
     /// Serves a request, and notes it.
+    #[inline(always)]
     pub(crate) fn serve(&mut self, p: &mut Packet, out: &mut Outbox)
         requires size { p.old.size ≤ 64 }
         requires room { length out.old.entries < 64 }
@@ -33,6 +34,7 @@ impl Ram {
     }
 
     /// Serves a read, which lies in RAM or is refused.
+    #[inline(always)]
     fn serve_read(&self, p: &mut Packet, within: bool, out: &mut Outbox)
         requires cmd { p.old.cmd ≡ Read }
         requires size { p.old.size ≤ 64 }
@@ -49,6 +51,7 @@ impl Ram {
     }
 
     /// Serves a write, which lies in RAM or is refused.
+    #[inline(always)]
     fn serve_write(&mut self, p: &mut Packet, within: bool, out: &mut Outbox)
         requires cmd { p.old.cmd ≡ Write }
         requires size { p.old.size ≤ 64 }

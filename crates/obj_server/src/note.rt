@@ -9,18 +9,24 @@ use obj_core::Outbox;
 /// The requests of the hart and of the DMA engine have a source below this.
 const NOTED_SOURCES: u8 = 3;
 
-/// The first bytes, so many of them, and zeros behind.
+/// The first bytes, so many of them, and zeros behind. Most are 4 or 8, a length that is known beforehand.
+#[inline(always)]
 fn front(bytes: &[u8; 64], count: usize) -> [u8; 8]
     requires { count ≤ 8 }
     ensures { result ≡ take count bytes.now ++ drop count (replicate 8 0) }
 {
     let mut front = [0; 8];
-    front[..count].copy_from_slice(&bytes[..count]);
+    match count {
+        4 => front[..4].copy_from_slice(&bytes[..4]),
+        8 => front[..8].copy_from_slice(&bytes[..8]),
+        n => front[..n].copy_from_slice(&bytes[..n]),
+    }
     front
 }
 
 /// The eight bytes that an entry has of a packet.
 #[tactic(auto, using(crate::proofs::NotedBytes::noted_short, crate::proofs::NotedBytes::noted_long))]
+#[inline(always)]
 fn noted_bytes(p: &Packet) -> [u8; 8]
     requires { p.now.size ≤ 64 }
     ensures { result ≡ entry_bytes (carried_bytes p.now) }
@@ -33,6 +39,7 @@ fn noted_bytes(p: &Packet) -> [u8; 8]
 }
 
 /// Whether a packet is of a write.
+#[inline(always)]
 fn writes(cmd: Cmd) -> bool
     ensures { result ≡ is_write cmd }
 {
@@ -43,6 +50,7 @@ fn writes(cmd: Cmd) -> bool
 }
 
 /// Notes that a request with this command got this response, from RAM or from a device.
+#[inline(always)]
 pub(crate) fn note(cmd: Cmd, response: &Packet, device: bool, out: &mut Outbox)
     requires size { response.now.size ≤ 64 }
     requires room { length out.old.entries < 64 }

@@ -1,22 +1,37 @@
 // How a server answers or refuses a request.
 ghost use Rattle.std.specs.Prelude.{◌≡◌, ◌≤◌, ◌<◌, ◌++◌, length, true};
-ghost use Rattle.gm_model.specs.Packet.{read_response as response_with, write_response, fault_response};
+ghost use Rattle.gm_model.specs.Packet.{with_front, read_response as response_with, write_response, fault_response};
 ghost use Rattle.gm_model.specs.Serve.{served_entries};
 
 use crate::note::note;
 use gm_model::{Cmd, Packet};
 use obj_core::Outbox;
 
+/// Puts bytes in front. Words and double words, which most are, have copies of a length that is known beforehand.
+#[inline(always)]
+fn put_front(to: &mut [u8], from: &[u8])
+    requires { length from.now ≤ length to.old }
+    ensures { to.new ≡ with_front to.old from.now }
+{
+    match from.len() {
+        4 => to[..4].copy_from_slice(from),
+        8 => to[..8].copy_from_slice(from),
+        n => to[..n].copy_from_slice(from),
+    }
+}
+
 /// Makes a read its response, with these bytes. Nothing is noted.
+#[inline(always)]
 pub fn read_response(p: &mut Packet, bytes: &[u8])
     requires { length bytes.now ≤ 64 }
     ensures { p.new ≡ response_with p.old bytes.now }
 {
-    p.bytes[..bytes.len()].copy_from_slice(bytes);
+    put_front(&mut p.bytes, bytes);
     p.cmd = Cmd::ReadResp;
 }
 
 /// Answers a read with these bytes, and notes it as served by RAM or by a device.
+#[inline(always)]
 pub fn answer_read(p: &mut Packet, bytes: &[u8], device: bool, out: &mut Outbox)
     requires size { p.old.size ≤ 64 }
     requires bytes { length bytes.now ≤ 64 }
@@ -30,6 +45,7 @@ pub fn answer_read(p: &mut Packet, bytes: &[u8], device: bool, out: &mut Outbox)
 }
 
 /// Answers a write, and notes it as served by RAM or by a device.
+#[inline(always)]
 pub fn answer_write(p: &mut Packet, device: bool, out: &mut Outbox)
     requires size { p.old.size ≤ 64 }
     requires room { length out.old.entries < 64 }

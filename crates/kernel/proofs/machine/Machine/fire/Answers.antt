@@ -1,13 +1,13 @@
 use Rattle.std.proofs.Common.{sym, ◌∙◌, ap}
 use Rattle.gm_model.specs.Run.{console_of}
-use Rattle.kernel.proofs.Runs.{pop_may, byte_few, fired_sys, fired_entries, fired_sound, fired_idle, none_shown, first_replayed, first_early}
+use Rattle.kernel.proofs.Runs.{pop_may, byte_few, fired_sys, fired_entries, fired_sound, first_replayed, first_early}
 use Rattle.kernel.proofs.machine.Machine.fire.Goals as goal
 
 pub returns-in_err-due-clause-replay : goal.returns-in_err-due-clause-replay
 returns-in_err-due-clause-replay g c = first_replayed _ c.requires.machine.sound.machine
 
-pub serve-requires-clause-event : goal.serve-requires-clause-event
-serve-requires-clause-event g c =
+pub serve-requires : goal.serve-requires
+serve-requires g c =
     let e = c.in_ok-due.ensures in
     pop_may _ _ c.in_ok-due.due _ c.requires.machine.sound c.requires.events (sym e.first) (first_early c.args.self.now.queue.pending c.in_ok-due.due (sym e.first) c.requires.tick) e.rest _ e.table
 
@@ -43,8 +43,7 @@ pub returns-clause-machine : goal.returns-clause-machine
 returns-clause-machine g c =
     let e = c.in_ok-due.ensures in
     record {
-      idle = none_shown _ (fired_idle _ _ c.in_ok-due.due _ c.requires.machine.sound c.requires.events (sym e.first) (first_early c.args.self.now.queue.pending c.in_ok-due.due (sym e.first) c.requires.tick)
-          e.rest _ c.serve.ensures.delivered);
+      idle = c.serve.ensures.todo ∙ (e.kept.1 ∙ c.requires.machine.idle);
       sound = fired_sound _ _ c.in_ok-due.due _ c.requires.machine.sound c.requires.events (sym e.first) (first_early c.args.self.now.queue.pending c.in_ok-due.due (sym e.first) c.requires.tick)
           e.rest _ _ c.serve.ensures.served (c.serve.ensures.table ∙ e.table);
     }

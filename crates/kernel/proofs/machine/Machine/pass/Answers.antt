@@ -1,6 +1,7 @@
-use Rattle.std.proofs.Common.{arith}
-use Rattle.kernel.proofs.Parts.{passed_items}
+use Rattle.kernel.proofs.Parts.{passed_answered}
 use Rattle.kernel.proofs.machine.Machine.pass.Goals as goal
 
-pub respond-requires-clause-items : goal.respond-requires-clause-items
-respond-requires-clause-items g c = omega (arith, passed_items _ _ _ _ c.pass_to-latency.ensures.passed c.requires.room.items)
+pub returns-in-Some-clause-delivered : goal.returns-in-Some-clause-delivered
+returns-in-Some-clause-delivered g c sender =
+    let e = c.pass_to.ensures in
+    passed_answered _ _ _ _ c.in-Some.server.0 _ c.args.packet.now _ c.latency-way.result c.pass_to.result sender e.passed e.packet e.latency c.latency-way.ensures c.in-Some.ensures

@@ -1,33 +1,18 @@
-use Rattle.std.proofs.Common.{arith}
 use Rattle.std.proofs.lemmas.List.{length-map}
-use Rattle.kernel.proofs.Parts.{passed_shown, few_passed, quick_passed}
+use Rattle.kernel.proofs.Parts.{passed_shown, quick_passed}
 use Rattle.kernel.proofs.machine.Machine.pass_to.Goals as goal
-
--- a packet that is passed on asks for at most one act
-pub send-requires : goal.send-requires
-send-requires g c =
-    let old = c.args.self.now in
-    record {
-      room = omega (
-        arith,
-        old.room,
-        old.todo.ok.0,
-        rw length-map at c.requires.ready.items,
-        few_passed _ old.out c.pass_box-way.new.out c.args.packet.now old.tick c.pass_box-way.ensures.out old.quiet,
-      );
-    }
 
 pub returns-clause-passed : goal.returns-clause-passed
 returns-clause-passed g c =
     let e = c.pass_box-way.ensures in
     let old = c.args.self.now in
-    passed_shown _ old.parts.items c.args.server.0 c.index_mut.result.now (rw length-map at c.requires.ready.there) c.index_mut.ensures.value
+    passed_shown _ old.parts.items c.args.server.0 c.index_mut.result.now (rw length-map at c.requires.ready.ready.there) c.index_mut.ensures.value
     old.tick old.counters.since old.counters.counts old.draining old.router
-    c.args.packet.now old.out c.pass_box-way.new.out c.send.new.out old.queue c.pass_box-way.new.q c.pass_box-way.new.part old.todo.items c.send.new.todo.items
-    e.state e.events e.out old.quiet c.send.ensures.items c.send.ensures.out
+    c.args.packet.now old.out c.pass_box-way.new.out old.queue c.pass_box-way.new.q c.pass_box-way.new.part
+    e.state e.events e.out
 
 pub returns-clause-most : goal.returns-clause-most
 returns-clause-most g c =
     let old = c.args.self.now in
     quick_passed _ old.parts.items c.args.server.0 c.index_mut.result.now c.args.packet.now old.tick c.way_latency.result c.pass_box-way.result
-    (rw length-map at c.requires.ready.there) c.index_mut.ensures.value c.way_latency.ensures c.pass_box-way.ensures.way c.requires.latency
+    (rw length-map at c.requires.ready.ready.there) c.index_mut.ensures.value c.way_latency.ensures c.pass_box-way.ensures.way c.requires.ready.latency
