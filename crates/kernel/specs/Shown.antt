@@ -1,5 +1,5 @@
 -- A machine as the model sees it, and what is so of it between two calls.
-use Rattle.std.specs.Prelude.{◌≡◌, ℕ, false, List, [], map}
+use Rattle.std.specs.Prelude.{ℕ, false, List, map}
 use Rattle.std.specs.declared.alloc.Global.{Global}
 use Rattle.std.specs.declared.dyn_box.DynBox.{DynBox}
 use Rattle.gm_model.specs.Deliver.{Item, Delivery, sent_by}
@@ -35,9 +35,8 @@ flight_of f m i = delivery_of f m (sent_by i m.out.acts)
 abbrev pub entries_of : {I : Type 0} {D : I → Type 0} → Machine I D → List Entry
 entries_of m = m.out.entries
 
--- a machine between two calls: nothing is left to deliver, and each wake that comes is allowed
+-- a machine between two calls: each wake that comes is allowed
 pub record IsMachine {I : Type 0} {D : I → Type 0} (f : DynBox I Global D → ObjState) (m : Machine I D) : Type 0 where
-  pub idle : m.todo.items ≡ []
   pub sound : IsSound (sys_of f m) m.queue.table
 
 -- the same for crates above, in which the shown state is a function of the pair of a table and a value
@@ -45,5 +44,4 @@ abbrev pub sys_seen : {I : Type 0} {D : I → Type 0} → Machine I D → ((x : 
 sys_seen m f = sys_of (λ b. f (b.vtable, b.value)) m
 
 pub record IsSeen {I : Type 0} {D : I → Type 0} (m : Machine I D) (f : (x : I) × D x → ObjState) : Type 0 where
-  pub idle : m.todo.items ≡ []
   pub sound : IsSound (sys_seen m f) m.queue.table

@@ -18,7 +18,6 @@ use crate::build_fault::BuildFault;
 use crate::machine::Machine;
 use crate::pick::{Picked, pick};
 use crate::router::Router;
-use crate::send::ROOM;
 use ev_queue::{EventHandle, EventQueue};
 use gc_base::{NoMemory, ObjId, SlotNo};
 use gm_model::platform::{ATOMIC_CPU, EXIT, MEMORY, RAM_BASE, UART};
@@ -27,7 +26,6 @@ use obj_core::{Handles, Outbox, SimObject};
 use probe_stats::Counters;
 use rv_step::Arch;
 use std::alloc::Global;
-use std::collections::VecDeque;
 
 /// What an object of a machine is configured with.
 fn params(c: &Config, object: ObjId, own: Own) -> Params
@@ -174,7 +172,6 @@ impl Machine {
         requires memory { IsPart Kind.Mem (state picked.memory) }
         requires uart { IsPart Kind.Uart (state picked.uart) }
         ensures built { IfOk result (λ m. sys_of state m ≡ start_state c.now ram_base []) }
-        ensures idle { IfOk result (λ m. m.todo.items ≡ []) }
         ensures table { IfOk result (λ m. m.queue.table ≡ given_table 0 (platform c.now)) }
     {
         let mut queue = EventQueue::new(alloc, &[1, 1, 1, 2])?;
@@ -199,7 +196,6 @@ impl Machine {
     ) -> Result<Machine, NoMemory>
         requires { IsValidConfig c.now }
         ensures machine { IfOk result (λ m. sys_of state m ≡ standing c.now queue.pending (map (λ b. state b) parts.items)) }
-        ensures idle { IfOk result (λ m. m.todo.items ≡ []) }
         ensures table { IfOk result (λ m. m.queue.table ≡ queue.table) }
     {
         let counters = Counters::new(alloc, c)?;
@@ -208,7 +204,6 @@ impl Machine {
             parts,
             queue,
             out: Outbox::new(alloc)?,
-            todo: VecDeque::with_capacity(alloc, ROOM)?,
             counters,
             router: Router::new(alloc, c)?,
             tick,

@@ -45,7 +45,6 @@ impl Machine {
         ensures none { IfNone result (self.new ≡ self.old) }
         ensures landed { IfNone result (self.old.out.acts ≡ []) }
         ensures table { self.new.queue.table ≡ self.old.queue.table }
-        ensures todo { self.new.todo.items ≡ self.old.todo.items }
     {
         match self.out.oldest() {
             None => None,
@@ -80,7 +79,6 @@ impl Machine {
         requires ready { IsReadyForWake (delivery_of state self.old []) self.old.queue.table i.0 w }
         ensures delivered { flight_of state self.new i.0 ≡ deliver_wake (delivery_of state self.old []) i.0 w }
         ensures table { self.new.queue.table ≡ self.old.queue.table }
-        ensures todo { self.new.todo.items ≡ self.old.todo.items }
     {
         wake_box(
             &mut self.parts[i.0 as usize],
@@ -98,7 +96,6 @@ impl Machine {
         requires ready { IfSome (active_cpu (sys_of state self.old).objects) (λ i. IsReadyForWake (delivery_of state self.old []) self.old.queue.table i (Line bit level)) }
         ensures delivered { flight_of state self.new result.0 ≡ deliver_line (delivery_of state self.old []) 0 (Line bit level) (active_cpu (sys_of state self.old).objects) }
         ensures table { self.new.queue.table ≡ self.old.queue.table }
-        ensures todo { self.new.todo.items ≡ self.old.todo.items }
     {
         match self.active_cpu() {
             Some(cpu) => {
@@ -132,7 +129,6 @@ impl Machine {
         ensures delivered { (sender : ℕ) → delivery_of state self.new (Done sender packet.new result ∷ []) ≡ deliver_atomic (delivery_of state self.old []) sender packet.old (destination (sys_of state self.old).router.routes packet.old.addr) }
         ensures quiet { self.new.out.acts ≡ [] }
         ensures table { self.new.queue.table ≡ self.old.queue.table }
-        ensures todo { self.new.todo.items ≡ self.old.todo.items }
     {
         let way = self.router.latency();
         match self.router.destination(packet.addr) {
@@ -155,7 +151,6 @@ impl Machine {
         ensures most { result ≤ LATENCY_MAX }
         ensures quiet { self.new.out.acts ≡ [] }
         ensures table { self.new.queue.table ≡ self.old.queue.table }
-        ensures todo { self.new.todo.items ≡ self.old.todo.items }
     {
         let way = pass_box(
             &mut self.parts[server.0 as usize],

@@ -17,7 +17,6 @@ mod pick;
 mod reason;
 mod router;
 mod run_end;
-mod send;
 mod serve;
 
 pub use build_fault::BuildFault;

@@ -53,7 +53,6 @@ impl Machine {
         requires { IsMachine state self.old }
         ensures entered { sys_of state self.new ≡ entered entry (sys_of state self.old) }
         ensures entries { entries_of self.new ≡ entries_of self.old }
-        ensures todo { self.new.todo.items ≡ self.old.todo.items }
         ensures table { self.new.queue.table ≡ self.old.queue.table }
     {
         give_arch_box(&mut self.parts[ATOMIC_CPU.0 as usize], Arch::reset(entry));

@@ -1,28 +1,25 @@
 // The machine, and what it tells between two events.
-ghost use Rattle.std.specs.Prelude.{◌≡◌, ◌+◌, ◌-◌, ◌≤◌, [], length, take, drop, map};
+ghost use Rattle.std.specs.Prelude.{◌≡◌, ◌+◌, ◌-◌, ◌≤◌, length, take, drop, map};
 
 use crate::boxes::{arch_box, exit_box, read_box, resume_box, write_box};
 use crate::router::Router;
 use ev_queue::EventQueue;
 use gc_base::Tick;
+use gm_model::Entry;
 use gm_model::platform::{ATOMIC_CPU, EXIT, MEMORY, RAM_BASE};
-use gm_model::{Act, Entry};
 use obj_core::{Outbox, SimObject};
 use probe_stats::Counters;
 use rv_step::Arch;
-use std::collections::VecDeque;
 
 /// A machine: its parts in the order of their paths, their pending events, and what was counted.
 ///
 /// - Contracts see it as the model's `Sys`, by `sys_of` of what its parts show.
-/// - Between two calls nothing is left to deliver, and each wake that may come is allowed (`IsMachine`).
+/// - Between two calls each wake that may come is allowed (`IsMachine`).
 #[derive(Drop)]
 pub struct Machine {
     pub(crate) parts: Vec<Box<dyn SimObject>>,
     pub(crate) queue: EventQueue,
     pub(crate) out: Outbox,
-    /// For acts that wait for each other. In atomic mode none does: there is one at most, and it stays in the outbox.
-    pub(crate) todo: VecDeque<Act>,
     pub(crate) counters: Counters,
     pub(crate) router: Router,
     pub(crate) tick: Tick,
@@ -105,7 +102,6 @@ impl Machine {
         requires within { at + length from.now ≤ length (own_ram (sys_of state self.old).objects) }
         ensures raw { sys_of state self.new ≡ with_raw (ram_base + at) from.now (sys_of state self.old) }
         ensures entries { entries_of self.new ≡ entries_of self.old }
-        ensures todo { self.new.todo.items ≡ self.old.todo.items }
         ensures table { self.new.queue.table ≡ self.old.queue.table }
     {
         write_box(&mut self.parts[MEMORY.0 as usize], at, from);
@@ -127,7 +123,6 @@ impl Machine {
         requires { IsMachine state self.old }
         ensures resumed { sys_of state self.new ≡ commanded (λ o. resume_step o (sys_of state self.old).tick) (sys_of state self.old) }
         ensures entries { entries_of self.new ≡ entries_of self.old }
-        ensures todo { self.new.todo.items ≡ self.old.todo.items }
         ensures table { self.new.queue.table ≡ self.old.queue.table }
     {
         for i in 0..self.parts.len() {

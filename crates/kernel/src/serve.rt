@@ -53,7 +53,7 @@ impl Machine {
     fn take_event(&mut self) -> Option<Due>
         ensures first { result ≡ first (sys_of state self.old).pending }
         ensures rest { sys_of state self.new ≡ without_first (sys_of state self.old) }
-        ensures kept { (entries_of self.new ≡ entries_of self.old) × (self.new.todo.items ≡ self.old.todo.items) }
+        ensures entries { entries_of self.new ≡ entries_of self.old }
         ensures table { self.new.queue.table ≡ self.old.queue.table }
     {
         self.queue.pop()
@@ -66,7 +66,6 @@ impl Machine {
         ensures served { sys_of state self.new ≡ (counted (event_delivered (at_tick due.now.tick (sys_of state self.old)) due.now)).sys }
         ensures entries { entries_of self.new ≡ (event_delivered (at_tick due.now.tick (sys_of state self.old)) due.now).entries }
         ensures table { self.new.queue.table ≡ self.old.queue.table }
-        ensures todo { self.new.todo.items ≡ self.old.todo.items }
     {
         self.begin(due.tick);
         self.wake(due.owner, Wake::Event { slot: due.slot });
@@ -80,7 +79,6 @@ impl Machine {
         ensures begun { delivery_of state self.new [] ≡ not_begun (at_tick tick (sys_of state self.old)) }
         ensures quiet { self.new.out.acts ≡ [] }
         ensures table { self.new.queue.table ≡ self.old.queue.table }
-        ensures todo { self.new.todo.items ≡ self.old.todo.items }
     {
         self.tick = tick;
         self.out.clear_acts();
@@ -93,7 +91,6 @@ impl Machine {
         requires { IsUnderWay (flight_of state self.old sender.0) self.old.queue.table }
         ensures delivered { delivery_of state self.new [] ≡ deliver items_max (flight_of state self.old sender.0) }
         ensures table { self.new.queue.table ≡ self.old.queue.table }
-        ensures todo { self.new.todo.items ≡ self.old.todo.items }
     {
         let mut sender = sender;
         'acts: for _n in 0..DELIVERIES_MAX {

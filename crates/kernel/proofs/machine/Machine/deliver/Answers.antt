@@ -10,7 +10,6 @@ acts-preserved g c =
       same = two_delivered c.acts._n _ _ _ c.acts-test.true d.delivered i.same;
       under_way = rw d.table (still_under_way _ _ c.acts.self.queue.table d.delivered i.under_way);
       table = d.table ∙ i.table;
-      todo = d.todo ∙ i.todo;
     }
 
 pub returns-after-acts-clause-delivered : goal.returns-after-acts-clause-delivered

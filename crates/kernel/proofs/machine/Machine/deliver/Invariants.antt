@@ -11,5 +11,4 @@ invariant-acts g l = record {
       ≡ deliver 256 (flight_of (λ b. (goal.SimObject-dyn g (b.vtable, b.value)).state b.value) l.initial.self l.initial.sender.0);
   under_way : IsUnderWay (flight_of (λ b. (goal.SimObject-dyn g (b.vtable, b.value)).state b.value) l.self l.sender.0) l.self.queue.table;
   table : l.self.queue.table ≡ l.initial.self.queue.table;
-  todo : l.self.todo.items ≡ l.initial.self.todo.items;
 }

@@ -43,7 +43,6 @@ pub returns-clause-machine : goal.returns-clause-machine
 returns-clause-machine g c =
     let e = c.in_ok-due.ensures in
     record {
-      idle = c.serve.ensures.todo ∙ (e.kept.1 ∙ c.requires.machine.idle);
       sound = fired_sound _ _ c.in_ok-due.due _ c.requires.machine.sound c.requires.events (sym e.first) (first_early c.args.self.now.queue.pending c.in_ok-due.due (sym e.first) c.requires.tick)
           e.rest _ _ c.serve.ensures.served (c.serve.ensures.table ∙ e.table);
     }

@@ -38,6 +38,5 @@ returns-clause-loaded g c = image_put _ _ _ c.args.image.now c.loop-piece.piece-
 
 pub returns-clause-machine : goal.returns-clause-machine
 returns-clause-machine g c = record {
-  idle = c.enter.ensures.todo ∙ c.loop-piece.invariant.machine.idle;
   sound = entered_kept _ _ _ _ c.args.image.now.entry c.loop-piece.invariant.machine.sound c.enter.ensures.entered c.enter.ensures.table;
 }

@@ -1,9 +1,7 @@
-use Rattle.std.proofs.Common.{◌∙◌}
 use Rattle.kernel.proofs.Changes.{put_sound}
 use Rattle.kernel.proofs.machine.Machine.put_raw.Goals as goal
 
 pub returns-clause-machine : goal.returns-clause-machine
 returns-clause-machine g c = record {
-  idle = c.write_ram.ensures.todo ∙ c.requires.machine.idle;
   sound = put_sound _ _ _ _ c.args.addr c.args.from.now c.requires.machine.sound c.requires.least c.requires.most c.write_ram.ensures.raw c.write_ram.ensures.table;
 }

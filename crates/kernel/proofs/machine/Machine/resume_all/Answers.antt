@@ -1,9 +1,7 @@
-use Rattle.std.proofs.Common.{◌∙◌}
 use Rattle.kernel.proofs.Changes.{resume_sound}
 use Rattle.kernel.proofs.machine.Machine.resume_all.Goals as goal
 
 pub returns-clause-machine : goal.returns-clause-machine
 returns-clause-machine g c = record {
-  idle = c.resume_parts.ensures.todo ∙ c.requires.idle;
   sound = resume_sound _ _ _ _ c.requires.sound c.resume_parts.ensures.resumed c.resume_parts.ensures.table;
 }

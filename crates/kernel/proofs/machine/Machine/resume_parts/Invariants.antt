@@ -17,7 +17,6 @@ invariant-loop-i g l = record {
   table : l.self.queue.table ≡ l.initial.self.queue.table;
   tick : l.self.tick ≡ l.initial.self.tick;
   out : l.self.out ≡ l.initial.self.out;
-  todo : l.self.todo.items ≡ l.initial.self.todo.items;
   counters : l.self.counters ≡ l.initial.self.counters;
   router : l.self.router ≡ l.initial.self.router;
   draining : l.self.draining ≡ l.initial.self.draining;
