@@ -1,11 +1,14 @@
 // Whole calls of the program, in one table. The ticks are worked by hand from the latencies of the configuration.
 use super::call;
+use files::{COMPILED_FILE, LOOP_FILE, PROGRAM_FILE};
 use gc_base::NoMemory;
 use gc_outside::{MemSink, MemStore};
 use std::alloc::{AllocError, Global};
 use std::process::Abort;
 use std::str;
 use std::test::Fail;
+
+mod files;
 
 /// A machine with 64 KiB of RAM: its model, its budget, more keys of `cpu`, the latency of `corebus`, and more sections.
 macro_rules! config {
@@ -90,9 +93,11 @@ pub(crate) enum Content {
     Bytes(&'static [u8]),
     /// A text, and behind it a comment, of so many bytes together.
     Padded(&'static str, usize),
+    /// The file of the program with the bytes at some places changed.
+    Changed(&'static [(usize, u8)]),
 }
 
-use Content::{Bytes, Padded, Text};
+use Content::{Bytes, Changed, Padded, Text};
 
 impl Content {
     /// The bytes of the file.
@@ -103,6 +108,15 @@ impl Content {
             Padded(text, length) => {
                 let mut bytes = Vec::from_slice(alloc, text.as_bytes())?;
                 bytes.resize(length, b'#')?;
+                Ok(bytes)
+            }
+            Changed(changes) => {
+                let mut bytes = Vec::from_slice(alloc, &PROGRAM_FILE)?;
+                for (place, byte) in changes {
+                    if let Some(changed) = bytes.get_mut(*place) {
+                        *changed = *byte;
+                    }
+                }
                 Ok(bytes)
             }
         }
@@ -356,6 +370,250 @@ run exit 0 at 8200 insts 2 events 3\n",
     },
 ];
 
+// Files of the program with one byte changed.
+const ODD_ENTRY: File = ("image", Changed(&[(24, 1)]));
+
+const OF_32_BITS: File = ("image", Changed(&[(4, 1)]));
+
+const HIGH_BYTE_FIRST: File = ("image", Changed(&[(5, 2)]));
+
+const SHARED_OBJECT: File = ("image", Changed(&[(16, 3)]));
+
+const OF_X86: File = ("image", Changed(&[(18, 62)]));
+
+// What the cases of ELF files and of sources have.
+const FLAT: &[&str] = &["flat", "image", "10"];
+
+const ASM: &[&str] = &["asm", "source", "image"];
+
+/// The source of the program that stores and exits.
+const SOURCE: File = (
+    "source",
+    Text("lui x10, 0x10000\naddi x5, x0, 1\nsb x5, 0(x10)\nlui x11, 0x100\nsw x0, 0(x11)\n"),
+);
+
+/// A call of `asm` that is refused, and puts no file.
+const REFUSED_SOURCE: Case = Case {
+    words: ASM,
+    status: 12,
+    left: &[("image", None)],
+    ..SILENT
+};
+
+/// Calls over ELF files and over sources.
+static PROGRAM_CASES: [Case; 25] = [
+    Case {
+        name: "segment_past_ram",
+        // 4 bytes of the file, and 65,537 of memory
+        files: &[
+            CONFIG,
+            ("image", Changed(&[(96, 4), (104, 1), (106, 1)])),
+            ("script", Text("run tick 0\n")),
+        ],
+        status: 4,
+        report: "image segment 0\n",
+        ..SILENT
+    },
+    Case {
+        name: "segment_of_all_ram",
+        files: &[
+            CONFIG,
+            ("image", Changed(&[(96, 4), (104, 0), (106, 1)])),
+            ("script", Text("run tick 0\n")),
+        ],
+        report: "run tick at 0 insts 0 events 0\n",
+        ..SILENT
+    },
+    Case {
+        name: "compiler_headers",
+        files: &[CONFIG, ("image", Bytes(&COMPILED_FILE)), RUN_END_AND_REGS],
+        console: b"\x01",
+        report: and_registers!("run exit 0 at 8200 insts 5 events 6\n"),
+        ..SILENT
+    },
+    Case {
+        name: "run_of_damaged_header",
+        files: &[CONFIG, ODD_ENTRY, RUN_END],
+        status: 4,
+        report: "image header\n",
+        ..SILENT
+    },
+    Case {
+        name: "run_of_32_bits",
+        files: &[CONFIG, OF_32_BITS, RUN_END],
+        status: 4,
+        report: "image class\n",
+        ..SILENT
+    },
+    Case {
+        name: "run_of_high_byte_first",
+        files: &[CONFIG, HIGH_BYTE_FIRST, RUN_END],
+        status: 4,
+        report: "image order\n",
+        ..SILENT
+    },
+    Case {
+        name: "run_of_shared_object",
+        files: &[CONFIG, SHARED_OBJECT, RUN_END],
+        status: 4,
+        report: "image kind\n",
+        ..SILENT
+    },
+    Case {
+        name: "run_of_other_machine",
+        files: &[CONFIG, OF_X86, RUN_END],
+        status: 4,
+        report: "image machine\n",
+        ..SILENT
+    },
+    Case {
+        name: "run_of_image_longer_than_ram",
+        files: &[CONFIG, ("image", Padded("", 65_537)), RUN_END],
+        status: 4,
+        report: "image raw\n",
+        ..SILENT
+    },
+    Case {
+        name: "flat_of_damaged_header",
+        files: &[ODD_ENTRY],
+        words: FLAT,
+        status: 4,
+        report: "image header\n",
+        ..SILENT
+    },
+    Case {
+        name: "flat_of_32_bits",
+        files: &[OF_32_BITS],
+        words: FLAT,
+        status: 4,
+        report: "image class\n",
+        ..SILENT
+    },
+    Case {
+        name: "flat_of_high_byte_first",
+        files: &[HIGH_BYTE_FIRST],
+        words: FLAT,
+        status: 4,
+        report: "image order\n",
+        ..SILENT
+    },
+    Case {
+        name: "flat_of_shared_object",
+        files: &[SHARED_OBJECT],
+        words: FLAT,
+        status: 4,
+        report: "image kind\n",
+        ..SILENT
+    },
+    Case {
+        name: "flat_of_other_machine",
+        files: &[OF_X86],
+        words: FLAT,
+        status: 4,
+        report: "image machine\n",
+        ..SILENT
+    },
+    Case {
+        name: "flat_of_image_longer_than_ram",
+        files: &[("image", Padded("", 16_777_217))],
+        words: FLAT,
+        status: 4,
+        report: "image raw\n",
+        ..SILENT
+    },
+    Case {
+        name: "flat_exits",
+        files: &[("image", Bytes(&PROGRAM_FILE))],
+        words: FLAT,
+        console: b"\x01",
+        report: and_registers!("flat exit 0 steps 5\n"),
+        ..SILENT
+    },
+    Case {
+        name: "flat_begins_at_the_entry",
+        files: &[("image", Changed(&[(24, 4)]))],
+        words: &["flat", "image", "0"],
+        report: "flat count steps 0\npc 0000000080000004\nmstatus 0000000000001800\n",
+        ..SILENT
+    },
+    Case {
+        name: "number_out_of_range",
+        files: &[("source", Text("addi x1, x0, 1\naddi x1, x0, 2048\n"))],
+        report: "source line 2 range\n",
+        ..REFUSED_SOURCE
+    },
+    Case {
+        name: "label_and_instruction_on_one_line",
+        files: &[("source", Text("x: jal x0, x\n"))],
+        report: "source line 1 word\n",
+        ..REFUSED_SOURCE
+    },
+    Case {
+        name: "source_of_other_bytes",
+        files: &[("source", Bytes(b"addi x1, x0, 1\n\xff\n"))],
+        report: "source line 2 word\n",
+        ..REFUSED_SOURCE
+    },
+    Case {
+        name: "missing_source",
+        files: &[],
+        status: 7,
+        report: "file source absent\n",
+        ..REFUSED_SOURCE
+    },
+    Case {
+        name: "too_long_source",
+        files: &[("source", Padded("", 1_048_577))],
+        status: 7,
+        report: "file source long\n",
+        ..REFUSED_SOURCE
+    },
+    Case {
+        name: "store_that_opens_no_file",
+        files: &[SOURCE],
+        faults: Faults {
+            store: Some(1),
+            ..NO_FAULTS
+        },
+        status: 8,
+        report: "store image\n",
+        ..REFUSED_SOURCE
+    },
+    Case {
+        name: "jump_to_itself",
+        files: &[("source", Text("x:\njal x0, x\n"))],
+        words: ASM,
+        left: &[("image", Some(&LOOP_FILE))],
+        ..SILENT
+    },
+    Case {
+        name: "assembler_round_trip",
+        files: &[SOURCE],
+        words: ASM,
+        left: &[("image", Some(&PROGRAM_FILE))],
+        ..SILENT
+    },
+];
+
+/// A program is assembled, and its file is run, over the store of the first call.
+static ASSEMBLED_AND_RUN: [Case; 2] = [
+    Case {
+        name: "assembled",
+        files: &[SOURCE, CONFIG, RUN_END_AND_REGS],
+        words: ASM,
+        left: &[("image", Some(&PROGRAM_FILE))],
+        ..SILENT
+    },
+    Case {
+        name: "run_of_assembled_file",
+        files: &[],
+        console: b"\x01",
+        report: and_registers!("run exit 0 at 8200 insts 5 events 6\n"),
+        left: &[("image", Some(&PROGRAM_FILE))],
+        ..SILENT
+    },
+];
+
 /// Where the bytes of a call go.
 #[derive(Drop)]
 pub(crate) struct Sinks {
@@ -384,7 +642,7 @@ pub(crate) fn words_of(alloc: Global, case: &Case) -> Result<Vec<String>, AllocE
 
 /// A store with the files of a call.
 pub(crate) fn store_of(rt: &(impl Abort + AllocGlobal), case: &Case) -> Result<MemStore, NoMemory> {
-    let mut store = MemStore::new(rt.alloc(), 70_000)?;
+    let mut store = MemStore::new(rt.alloc(), 20_000_000)?;
     for (name, content) in case.files {
         let bytes = content.bytes(rt.alloc())?;
         assert!(rt; store.add(name, bytes.as_slice()), "{name}");
@@ -442,10 +700,29 @@ fn expect_call(
     expect_left(rt, case, status, store, &sinks)
 }
 
+/// Makes calls, each over a store of its own.
+fn expect_calls(rt: &(impl Abort + AllocGlobal), cases: &[Case]) -> Result<(), Fail> {
+    for case in cases {
+        let mut store = store_of(rt, case)?;
+        expect_call(rt, case, &mut store)?;
+    }
+    Ok(())
+}
+
 #[test]
 fn calls_write_what_the_rules_say(rt: HostRuntime) -> Result<(), Fail> {
-    for case in &CASES {
-        let mut store = store_of(&rt, case)?;
+    expect_calls(&rt, &CASES)
+}
+
+#[test]
+fn programs_are_read_and_written_as_the_rules_say(rt: HostRuntime) -> Result<(), Fail> {
+    expect_calls(&rt, &PROGRAM_CASES)
+}
+
+#[test]
+fn an_assembled_file_is_run(rt: HostRuntime) -> Result<(), Fail> {
+    let mut store = store_of(&rt, &ASSEMBLED_AND_RUN[0])?;
+    for case in &ASSEMBLED_AND_RUN {
         expect_call(&rt, case, &mut store)?;
     }
     Ok(())
