@@ -1,5 +1,5 @@
 // The machine, and what it tells between two events.
-ghost use Rattle.std.specs.Prelude.{◌≡◌, ◌+◌, ◌-◌, ◌≤◌, length, take, drop, map};
+ghost use Rattle.std.specs.Prelude.{◌≡◌, ◌+◌, ◌-◌, ◌≤◌, [], length, take, drop, map};
 
 use crate::boxes::{arch_box, exit_box, read_box, resume_box, write_box};
 use crate::router::Router;
