@@ -1,5 +1,5 @@
 -- Events and runs of a machine.
-use Rattle.std.proofs.Common.{◌≡◌, ℕ, suc, ◌+◌, ◌<◌, ◌≤◌, ◌⊎◌, inl, inr, ◌++◌, refl, sym, ◌∙◌, ap, subst, arith, add-one, IfSome, IsSome, Bool, true, false, cond, nat_lt, nat_le, List, [], ◌∷◌, length, slice_get, Option, Some, None}
+use Rattle.std.proofs.Common.{◌≡◌, ℕ, zero, suc, ◌+◌, ◌-◌, ◌<◌, ◌≤◌, ◌⊎◌, inl, inr, ◌++◌, refl, sym, ◌∙◌, ap, subst, arith, add-one, IfSome, IsSome, Bool, true, false, cond, nat_lt, nat_le, List, [], ◌∷◌, length, slice_get, Option, Some, None}
 use Rattle.std.proofs.lemmas.Bool.{cases_lt}
 use Rattle.std.proofs.lemmas.Bool.Decides.{nat_tests}
 use Rattle.ev_queue.specs.declared.due.Due.{Due}
@@ -8,6 +8,7 @@ use Rattle.ev_queue.specs.PendingList.{first, rest}
 use Rattle.gc_outside.specs.Told.{Told}
 use Rattle.gc_outside.specs.Sink.{Appends, AppendsFront}
 use Rattle.gc_outside.proofs.Outputs.{told_appends, told_appends_front, told_appends_nothing}
+use Rattle.gm_model.specs.Counts.{Counts, count_access, count_entry, count_entries}
 use Rattle.gm_model.specs.Sys.{Sys}
 use Rattle.gm_model.specs.Deliver.{Delivery}
 use Rattle.gm_model.specs.Fire.{Ran, fire, fire_first, fire_due, fire_event, timed_run, taken_out, without_nth, event_begun, event_delivered, counted}
@@ -15,13 +16,14 @@ use Rattle.gm_model.specs.Run.{RunEnd, EndsRun, run_to, reason_at, reason_for, e
 use Rattle.gm_model.specs.AtomicMachine.{IsAtomicMachine, IsRunReplayed}
 use Rattle.gm_model.specs.Sound.{IsSound}
 use Rattle.gm_model.specs.declared.entry.Entry.{Entry}
+use Rattle.gm_model.specs.declared.entry.Entry.TheVariants as entries
 use Rattle.gm_model.specs.declared.goal.Goal.{Goal}
 use Rattle.gm_model.specs.declared.goal.Reason.{Reason}
 use Rattle.gm_model.specs.declared.goal.Reason.TheVariants as reasons
 use Rattle.gm_model.proofs.ConsoleBytes.{console-append, fire_bytes}
 use Rattle.gm_model.proofs.ReplayRuns.{runs_replayed}
 use Rattle.gm_model.proofs.RunEnds.{runs_end, run_is, budget_ends}
-use Rattle.gm_model.proofs.SoundEvents.{fire_sound, fire_few, same_events}
+use Rattle.gm_model.proofs.SoundEvents.{fire_sound, same_events}
 use Rattle.kernel.specs.Ends.{StopsWithin, TellsEnd}
 use Rattle.kernel.specs.Ready.{MayServe, HasEventsLeft, at_tick, without_first}
 use Rattle.kernel.proofs.Allowed.{may_serve}
@@ -123,12 +125,6 @@ module _ (start s : Sys) (n : ℕ) (here : s ≡ (timed_run start n).sys) where
   unfolding timed_run
   run_more s' e = rw add-one (e ∙ ap (λ x. (fire_first x).sys) here)
 
-  pub insts_more : (insts insts' count : ℕ) (es : List Entry) → insts ≡ retired_in (timed_run start n).entries → es ≡ (fire_first s).entries → count ≡ retired_in es
-      → insts' ≡ insts + count → insts' ≡ retired_in (timed_run start (n + 1)).entries
-  unfolding timed_run
-  insts_more insts insts' count es i e c k =
-      rw add-one (omega (arith, i, k, c, ap retired_in (e ∙ ap (λ x. (fire_first x).entries) here), retired-append (timed_run start n).entries (fire_first (timed_run start n).sys).entries))
-
   console_more : console_of (timed_run start (suc n)).entries ≡ console_of (timed_run start n).entries ++ console_of (fire_first s).entries
   unfolding timed_run
   console_more = console-append (timed_run start n).entries (fire_first (timed_run start n).sys).entries
@@ -166,14 +162,56 @@ run_longer g start n none = by_place (cases_lt n (run_to start g).events) where
   by_place (inl l) = l
   by_place (inr l) = absurd (wrong (run_to start g) (runs_end.run start g) l)
 
+-- what the counters say of what retired
+retired_access : (c : Counts) (device write : Bool) → (count_access c device write).retired ≡ c.retired
+retired_access c true true = refl
+retired_access c true false = refl
+retired_access c false true = refl
+retired_access c false false = refl
+
+retired_entry : (c : Counts) (e : Entry) → (count_entry c e).retired ≡ c.retired + retired_in (e ∷ [])
+retired_entry c (entries.Served src id write addr size bytes device fault) = omega (arith, retired_access c device write)
+retired_entry c (entries.Retired pc word) = omega arith
+retired_entry c (entries.Trapped cause tval) = omega arith
+retired_entry c (entries.Line bit level) = omega arith
+retired_entry c entries.Slept = omega arith
+retired_entry c (entries.Hit object) = omega arith
+retired_entry c (entries.Miss object) = omega arith
+retired_entry c (entries.Refused object) = omega arith
+
+retired_entries : (c : Counts) (es : List Entry) → (count_entries c es).retired ≡ c.retired + retired_in es
+retired_entries c [] = omega arith
+retired_entries c (e ∷ es) = omega (arith, retired_entries (count_entry c e) es, retired_entry c e, retired-append (e ∷ []) es)
+
+retired_event : (s : Sys) (n t : ℕ) (e : Due) → (fire_event s n t (Some e)).sys.counts.retired ≡ s.counts.retired + retired_in (fire_event s n t (Some e)).entries
+retired_event s n t e =
+    let d : Delivery = event_delivered (taken_out s n t) e in
+    omega (arith, retired_entries d.sys.counts d.entries, ap (λ c. c.retired) (deliver_counts 256 (event_begun (taken_out s n t) e)))
+
+retired_first : (s : Sys) → (fire_first s).sys.counts.retired ≡ s.counts.retired + retired_in (fire_first s).entries
+unfolding fire
+retired_first s = by_first s.pending refl where
+  by_first : (es : List Due) → s.pending ≡ es → (fire_due s (first es)).sys.counts.retired ≡ s.counts.retired + retired_in (fire_due s (first es)).entries
+  by_first [] e = omega arith
+  by_first (d ∷ es) e =
+      let P : List Due → Type 0 = λ xs. (fire_event s 0 d.tick (slice_get xs 0)).sys.counts.retired ≡ s.counts.retired + retired_in (fire_event s 0 d.tick (slice_get xs 0)).entries in
+      subst P (sym e) (retired_event s 0 d.tick d)
+
+retired_run : (s : Sys) (n : ℕ) → (timed_run s n).sys.counts.retired ≡ s.counts.retired + retired_in (timed_run s n).entries
+unfolding timed_run
+retired_run s zero = omega arith
+retired_run s (suc n) =
+    omega (arith, retired_run s n, retired_first (timed_run s n).sys, retired-append (timed_run s n).entries (fire_first (timed_run s n).sys).entries)
+
+-- and so of how many retired in a run
+pub retired_here : (start s : Sys) (n before now : ℕ) → s ≡ (timed_run start n).sys → before ≡ start.counts.retired → now ≡ s.counts.retired
+    → (before ≤ now) × (now - before ≡ retired_in (timed_run start n).entries)
+retired_here start s n before now h b e = (omega (arith, b, e, ap (λ x. x.counts.retired) h, retired_run start n), omega (arith, b, e, ap (λ x. x.counts.retired) h, retired_run start n))
+
 -- a run before its first event
 pub begun_sys : (s : Sys) → s ≡ (timed_run s 0).sys
 unfolding timed_run
 begun_sys s = refl
-
-pub begun_insts : (s : Sys) → 0 ≡ retired_in (timed_run s 0).entries
-unfolding timed_run
-begun_insts s = refl
 
 pub begun_bytes : (s : Sys) (a : Option (List ℕ)) → Told (Appends (console_of (timed_run s 0).entries)) a a
 unfolding timed_run
@@ -192,13 +230,6 @@ events_more s h = by_first s.pending refl h where
   by_first [] e k = cc
   by_first (d ∷ es) e k = let P : List Due → Type 0 = λ xs. (fire_event s 0 d.tick (slice_get xs 0)).sys.counts.events ≡ s.counts.events + 1 in
       subst P (sym e) (fired_event_more s 0 d.tick d)
-
--- an event notes little
-pub few_fired : (s : Sys) (table : List Slot) (es : List Entry) → IsSound s table → IfSome (first s.pending) (λ d. d.tick ≤ 4611703610613432320) → es ≡ (fire_first s).entries → length es ≤ 10
-few_fired s table es h l e = by_first (first s.pending) refl l (e ∙ ap (λ o. (fire_due s o).entries) refl) where
-  by_first : (o : Option Due) → first s.pending ≡ o → IfSome o (λ d. d.tick ≤ 4611703610613432320) → es ≡ (fire_due s o).entries → length es ≤ 10
-  by_first None k m n = omega (arith, ap (λ xs. length xs) n)
-  by_first (Some d) k m n = omega (arith, ap (λ xs. length xs) n, fire_few s table 0 d.tick h m)
 
 -- what is told of a run that ends here
 module _ (start : Sys) (g : Goal) (n : ℕ) (why : Reason) (h : reason_at g n (timed_run start n) ≡ Some why)
@@ -228,11 +259,8 @@ stops_within start g n s s' a b c here below at e h k = record {
   console = wrote_front start s n here a b c h k;
 }
 
--- a run that goes on serves an event, which notes little
+-- a run that goes on serves an event
 module _ (s : Sys) (table : List Slot) (h : IsSound s table) (g : Goal) (n insts : ℕ) (none : ◌≡◌ {A = Option Reason} None (reason_for g n insts s)) where
-  pub few_running : (es : List Entry) → es ≡ (fire_first s).entries → length es ≤ 10
-  few_running es e = few_fired s table es h (goes_on g n insts s (sym none)).tick e
-
   pub events_running : (s' : Sys) → s' ≡ (fire_first s).sys → s'.counts.events ≡ s.counts.events + 1
   events_running s' e = ap (λ x. x.counts.events) e ∙ events_more s (goes_on g n insts s (sym none)).some
 

@@ -2,7 +2,7 @@
 ghost use Rattle.std.specs.Prelude.{◌≡◌, ℕ, ◌+◌, ◌-◌, ◌^◌, ◌*◌, ◌<◌, ◌≤◌, ◌++◌, List, [], ◌∷◌, length};
 ghost use Rattle.std.specs.Option.{option_to_list};
 ghost use Rattle.gm_model.specs.Counts.{count_event};
-ghost use Rattle.gm_model.specs.Run.{console_of, console_bytes, retired_in};
+ghost use Rattle.gm_model.specs.Run.{console_of, console_bytes};
 ghost use Rattle.gm_model.specs.Sound.{IsCountedUpTo};
 
 use crate::run_end::Fired;
@@ -26,21 +26,6 @@ pub(crate) fn count(counters: &mut Counters, entries: &[Entry])
         counters.note(entry);
     }
     counters.event();
-}
-
-/// How many instructions retired.
-pub(crate) fn retired(entries: &[Entry]) -> u64
-    requires { length entries.now ≤ 64 }
-    ensures count { result ≡ retired_in entries.now }
-    ensures most { result ≤ length entries.now }
-{
-    let mut count = 0;
-    for entry in entries.iter() {
-        if let Entry::Retired { .. } = entry {
-            count += 1;
-        }
-    }
-    count
 }
 
 /// The byte that an entry brings to the console: one that the hart writes at the UART's offset 0, unrefused.

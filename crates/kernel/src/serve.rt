@@ -14,7 +14,7 @@ ghost use Rattle.kernel.specs.Ends.{TellsEnd, StopsWithin, IsFaultOf};
 ghost use Rattle.kernel.specs.Ready.{IsUnderWay, MayServe, HasEventsLeft, at_tick, not_begun, without_first};
 ghost use Rattle.kernel.specs.declared.run_end.RunFault.{RunFault};
 
-use crate::entries::{count, retired, told};
+use crate::entries::{count, told};
 use crate::machine::Machine;
 use crate::reason::{has_retired, late_reason};
 use crate::run_end::{Fired, RunEnd, RunFault};
@@ -125,8 +125,9 @@ impl Machine {
         ensures report { _report.new ≡ _report.old }
         ensures machine { IsMachine state self.new }
     {
-        let mut insts = 0;
+        let start = self.counters.retired();
         'run: for events in 0..g.budget {
+            let insts = self.counters.retired() - start;
             if let Some(reason) = self.reason(&g, events, insts) {
                 return Ok(RunEnd {
                     reason,
@@ -135,8 +136,8 @@ impl Machine {
                 });
             }
             self.step(console)?;
-            insts += retired(self.entries());
         }
+        let insts = self.counters.retired() - start;
         match self.reason(&g, g.budget, insts) {
             Some(reason) => Ok(RunEnd {
                 reason,
@@ -154,7 +155,6 @@ impl Machine {
         requires some { IsSome (first (sys_of state self.old).pending) }
         requires tick { IfSome (first (sys_of state self.old).pending) (λ d. d.tick ≤ TOP) }
         ensures fired { sys_of state self.new ≡ (fire_first (sys_of state self.old)).sys }
-        ensures entries { entries_of self.new ≡ (fire_first (sys_of state self.old)).entries }
         ensures console { OnOk result (Told (Appends (console_of (fire_first (sys_of state self.old)).entries)) (C.taken console.old) (C.taken console.new)) }
         ensures cut { OnErr result (Told (AppendsFront (console_of (fire_first (sys_of state self.old)).entries)) (C.taken console.old) (C.taken console.new)) }
         ensures fault { IfErr result (λ f. (f ≡ RunFault.Console) × Rose (C.faults console.old) (C.faults console.new)) }

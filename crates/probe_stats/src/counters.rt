@@ -114,6 +114,14 @@ impl Counters {
         self.events += 1;
     }
 
+    /// How many instructions retired.
+    #[inline(always)]
+    pub fn retired(&self) -> u64
+        ensures { result ≡ self.now.counts.retired }
+    {
+        self.retired
+    }
+
     /// The tick since when it has counted.
     pub fn since(&self) -> Tick
         ensures { result ≡ self.now.since }

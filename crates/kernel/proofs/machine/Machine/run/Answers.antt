@@ -1,12 +1,10 @@
-use Rattle.std.proofs.Common.{arith, rules, refl, ◌∙◌}
-use Rattle.kernel.proofs.Runs.{begun_sys, begun_insts, begun_bytes, reason_is, tells_end, ends_sys, ends_bytes, run_to_replayed, run_more, insts_more, wrote_more, none_before, few_running, events_running, stops_within, last_reason}
+use Rattle.std.proofs.Common.{arith, rules, refl, ◌-◌}
+use Rattle.kernel.proofs.Runs.{begun_sys, begun_bytes, reason_is, tells_end, ends_sys, ends_bytes, run_to_replayed, run_more, retired_here, wrote_more, none_before, events_running, stops_within, last_reason}
 use Rattle.kernel.proofs.machine.Machine.run.Goals as goal
 
 pub run-init : goal.run-init
 run-init g c = record {
   ran = begun_sys _;
-  insts = begun_insts _;
-  few = omega arith;
   none = λ k l. absurd (omega (arith, l));
   wrote = begun_bytes _ _;
   faults = omega arith;
@@ -17,17 +15,20 @@ run-init g c = record {
 pub returns-in-Some-clause-ended : goal.returns-in-Some-clause-ended
 returns-in-Some-clause-ended g c =
     let i = c.run.invariant in
-    tells_end _ c.args.g c.run.events c.in-Some.reason (reason_is _ _ c.run.events i.ran c.args.g c.run.insts _ i.insts c.in-Some.ensures) i.none c.run.insts c.run.events i.insts refl
+    let n = retired_here _ _ c.run.events c.retired-start.result c.retired.result i.ran c.retired-start.ensures c.retired.ensures in
+    tells_end _ c.args.g c.run.events c.in-Some.reason (reason_is _ _ c.run.events i.ran c.args.g (c.retired.result - c.retired-start.result) _ n.1 c.in-Some.ensures) i.none (c.retired.result - c.retired-start.result) c.run.events n.1 refl
 
 pub returns-in-Some-clause-ran : goal.returns-in-Some-clause-ran
 returns-in-Some-clause-ran g c =
     let i = c.run.invariant in
-    ends_sys _ c.args.g c.run.events c.in-Some.reason (reason_is _ _ c.run.events i.ran c.args.g c.run.insts _ i.insts c.in-Some.ensures) i.none _ i.ran
+    let n = retired_here _ _ c.run.events c.retired-start.result c.retired.result i.ran c.retired-start.ensures c.retired.ensures in
+    ends_sys _ c.args.g c.run.events c.in-Some.reason (reason_is _ _ c.run.events i.ran c.args.g (c.retired.result - c.retired-start.result) _ n.1 c.in-Some.ensures) i.none _ i.ran
 
 pub returns-in-Some-clause-console : goal.returns-in-Some-clause-console
 returns-in-Some-clause-console g c =
     let i = c.run.invariant in
-    ends_bytes _ c.args.g c.run.events c.in-Some.reason (reason_is _ _ c.run.events i.ran c.args.g c.run.insts _ i.insts c.in-Some.ensures) i.none _ _ i.wrote
+    let n = retired_here _ _ c.run.events c.retired-start.result c.retired.result i.ran c.retired-start.ensures c.retired.ensures in
+    ends_bytes _ c.args.g c.run.events c.in-Some.reason (reason_is _ _ c.run.events i.ran c.args.g (c.retired.result - c.retired-start.result) _ n.1 c.in-Some.ensures) i.none _ _ i.wrote
 
 pub returns-in-Some-clause-replay : goal.returns-in-Some-clause-replay
 returns-in-Some-clause-replay g c = run_to_replayed _ _ c.requires.machine.sound.machine
@@ -38,49 +39,48 @@ returns-in_err-step-clause-replay g c = run_to_replayed _ _ c.requires.machine.s
 pub returns-in_err-step-clause-stopped : goal.returns-in_err-step-clause-stopped
 returns-in_err-step-clause-stopped g c =
     let i = c.run.invariant in
-    let none = reason_is _ _ c.run.events i.ran c.args.g c.run.insts _ i.insts c.in_default.ensures in
+    let n = retired_here _ _ c.run.events c.retired-start.result c.retired.result i.ran c.retired-start.ensures c.retired.ensures in
+    let none = reason_is _ _ c.run.events i.ran c.args.g (c.retired.result - c.retired-start.result) _ n.1 c.in_default.ensures in
     let stops = stops_within _ c.args.g c.run.events _ _ _ _ _ i.ran i.none none c.step.ensures.fired i.wrote c.in_err-step.ensures.cut in
     search (rules, stops)
-
-pub retired-insts-requires : goal.retired-insts-requires
-retired-insts-requires g c =
-    let i = c.run.invariant in
-    omega (arith, few_running _ _ i.machine.sound c.args.g c.run.events c.run.insts c.in_default.ensures _ (c.entries.ensures ∙ c.step.ensures.entries))
 
 pub run-preserved : goal.run-preserved
 run-preserved g c =
     let i = c.run.invariant in
+    let n = retired_here _ _ c.run.events c.retired-start.result c.retired.result i.ran c.retired-start.ensures c.retired.ensures in
     record {
       ran = run_more _ _ c.run.events i.ran _ c.step.ensures.fired;
-      insts = insts_more _ _ c.run.events i.ran c.run.insts _ c.retired-insts.result _ i.insts (c.entries.ensures ∙ c.step.ensures.entries) c.retired-insts.ensures.count refl;
-      few = omega (
-        arith,
-        i.few,
-        c.retired-insts.ensures.most,
-        few_running _ _ i.machine.sound c.args.g c.run.events c.run.insts c.in_default.ensures _ (c.entries.ensures ∙ c.step.ensures.entries),
-      );
-      none = none_before c.args.g _ c.run.events i.none (reason_is _ _ c.run.events i.ran c.args.g c.run.insts _ i.insts c.in_default.ensures);
+      none = none_before c.args.g _ c.run.events i.none (reason_is _ _ c.run.events i.ran c.args.g (c.retired.result - c.retired-start.result) _ n.1 c.in_default.ensures);
       wrote = wrote_more _ _ c.run.events i.ran _ _ _ i.wrote c.in_ok-step.ensures.console;
       faults = omega (arith, i.faults, c.step.ensures.count);
-      counted = omega (arith, i.counted, events_running _ _ i.machine.sound c.args.g c.run.events c.run.insts c.in_default.ensures _ c.step.ensures.fired);
+      counted = omega (arith, i.counted, events_running _ _ i.machine.sound c.args.g c.run.events (c.retired.result - c.retired-start.result) c.in_default.ensures _ c.step.ensures.fired);
       machine = c.step.ensures.machine;
     }
 
 pub returns-clause-ended : goal.returns-clause-ended
 returns-clause-ended g c =
     let i = c.run.invariant in
-    tells_end _ c.args.g c.run.events c.in-Some-reason.reason (last_reason _ _ c.run.events i.ran c.args.g c.run.insts _ i.insts c.in-Some-reason.ensures (omega (arith, c.run-test.false))) i.none
-    c.run.insts c.args.g.budget i.insts (omega (arith, c.run-test.false))
+    let n = retired_here _ _ c.run.events c.retired-start.result c.retired-2.result i.ran c.retired-start.ensures c.retired-2.ensures in
+    tells_end _ c.args.g c.run.events c.in-Some-reason.reason (last_reason _ _ c.run.events i.ran c.args.g (c.retired-2.result - c.retired-start.result) _ n.1 c.in-Some-reason.ensures (omega (arith, c.run-test.false))) i.none
+    (c.retired-2.result - c.retired-start.result) c.args.g.budget n.1 (omega (arith, c.run-test.false))
 
 pub returns-clause-ran : goal.returns-clause-ran
 returns-clause-ran g c =
     let i = c.run.invariant in
-    ends_sys _ c.args.g c.run.events c.in-Some-reason.reason (last_reason _ _ c.run.events i.ran c.args.g c.run.insts _ i.insts c.in-Some-reason.ensures (omega (arith, c.run-test.false))) i.none _ i.ran
+    let n = retired_here _ _ c.run.events c.retired-start.result c.retired-2.result i.ran c.retired-start.ensures c.retired-2.ensures in
+    ends_sys _ c.args.g c.run.events c.in-Some-reason.reason (last_reason _ _ c.run.events i.ran c.args.g (c.retired-2.result - c.retired-start.result) _ n.1 c.in-Some-reason.ensures (omega (arith, c.run-test.false))) i.none _ i.ran
 
 pub returns-clause-console : goal.returns-clause-console
 returns-clause-console g c =
     let i = c.run.invariant in
-    ends_bytes _ c.args.g c.run.events c.in-Some-reason.reason (last_reason _ _ c.run.events i.ran c.args.g c.run.insts _ i.insts c.in-Some-reason.ensures (omega (arith, c.run-test.false))) i.none _ _ i.wrote
+    let n = retired_here _ _ c.run.events c.retired-start.result c.retired-2.result i.ran c.retired-start.ensures c.retired-2.ensures in
+    ends_bytes _ c.args.g c.run.events c.in-Some-reason.reason (last_reason _ _ c.run.events i.ran c.args.g (c.retired-2.result - c.retired-start.result) _ n.1 c.in-Some-reason.ensures (omega (arith, c.run-test.false))) i.none _ _ i.wrote
 
 pub returns-clause-replay : goal.returns-clause-replay
 returns-clause-replay g c = run_to_replayed _ _ c.requires.machine.sound.machine
+
+pub overflow_sub-insts : goal.overflow_sub-insts
+overflow_sub-insts g c = (retired_here _ _ c.run.events c.retired-start.result c.retired.result c.run.invariant.ran c.retired-start.ensures c.retired.ensures).0
+
+pub overflow_sub-insts-2 : goal.overflow_sub-insts-2
+overflow_sub-insts-2 g c = (retired_here _ _ c.run.events c.retired-start.result c.retired-2.result c.run.invariant.ran c.retired-start.ensures c.retired-2.ensures).0

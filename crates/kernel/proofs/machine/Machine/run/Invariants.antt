@@ -1,8 +1,8 @@
-use Rattle.std.proofs.Common.{◌≡◌, ℕ, ◌+◌, ◌*◌, ◌<◌, ◌≤◌, None}
+use Rattle.std.proofs.Common.{◌≡◌, ℕ, ◌+◌, ◌<◌, ◌≤◌, None}
 use Rattle.gc_outside.specs.Told.{Told}
 use Rattle.gc_outside.specs.Sink.{Appends}
 use Rattle.gm_model.specs.Fire.{timed_run}
-use Rattle.gm_model.specs.Run.{reason_at, retired_in, console_of}
+use Rattle.gm_model.specs.Run.{reason_at, console_of}
 use Rattle.kernel.specs.Shown.{sys_of, IsMachine}
 use Rattle.kernel.proofs.machine.Machine.run.Given as goal
 
@@ -11,8 +11,6 @@ abbrev pub invariant-run : goal.invariant-run
 invariant-run g l = record {
   ran : sys_of (λ b. (goal.SimObject-dyn g (b.vtable, b.value)).state b.value) l.self
       ≡ (timed_run (sys_of (λ b. (goal.SimObject-dyn g (b.vtable, b.value)).state b.value) l.initial.self) l.events).sys;
-  insts : l.insts ≡ retired_in (timed_run (sys_of (λ b. (goal.SimObject-dyn g (b.vtable, b.value)).state b.value) l.initial.self) l.events).entries;
-  few : l.insts ≤ 64 * l.events;
   none : (k : ℕ) → k < l.events → reason_at l.g k (timed_run (sys_of (λ b. (goal.SimObject-dyn g (b.vtable, b.value)).state b.value) l.initial.self) k) ≡ None;
   wrote : Told (Appends (console_of (timed_run (sys_of (λ b. (goal.SimObject-dyn g (b.vtable, b.value)).state b.value) l.initial.self) l.events).entries))
       (g.C.Sink.taken l.initial.console) (g.C.Sink.taken l.console);
