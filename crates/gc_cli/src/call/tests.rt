@@ -401,7 +401,7 @@ const REFUSED_SOURCE: Case = Case {
 };
 
 /// Calls over ELF files and over sources.
-static PROGRAM_CASES: [Case; 25] = [
+static PROGRAM_CASES: [Case; 26] = [
     Case {
         name: "segment_past_ram",
         // 4 bytes of the file, and 65,537 of memory
@@ -567,6 +567,13 @@ static PROGRAM_CASES: [Case; 25] = [
         status: 7,
         report: "file source long\n",
         ..REFUSED_SOURCE
+    },
+    Case {
+        name: "longest_source",
+        files: &[("source", Padded("x:\njal x0, x\n", 1_048_576))],
+        words: ASM,
+        left: &[("image", Some(&LOOP_FILE))],
+        ..SILENT
     },
     Case {
         name: "store_that_opens_no_file",
