@@ -53,6 +53,8 @@ def main():
     with tempfile.TemporaryDirectory() as folder:
         reference = build_reference(folder)
         name = os.path.join(folder, "image.bin")
+        # What is compared is the program as its sources are now: the starter builds it where it is older.
+        subprocess.run([os.path.join(TOP, "bin", "gemcore"), "flat", os.devnull, "0"], check=True, capture_output=True)
         for n in range(asked.images):
             with open(name, "wb") as file:
                 file.write(image(pick))

@@ -1,6 +1,7 @@
 #!/bin/sh
-# A handle can't be copied, and no crate above ev_queue can make one. Run by hand, at the top of the repository:
-# a must-fail edit can't show it, since such code is refused before any proof is tried.
+# A handle can't be copied or cloned, no crate above ev_queue can make one, and a queue takes none of a slot whose handle it
+# didn't give itself. Run by hand, at the top of the repository: a must-fail edit can't show it, since most of such code is
+# refused before any proof is tried.
 set -eu
 folder=$(mktemp -d)
 trap 'rm -rf "$folder"' EXIT
@@ -18,6 +19,17 @@ refuses() {
         exit 1
     fi
     echo "$1: refused"
+}
+
+# accepts NAME: the check of the code on standard input must pass
+accepts() {
+    cat > "$folder/crates/misuse/src/lib.rt"
+    if ! (cd "$folder/crates/misuse" && rt check) > "$folder/log" 2>&1; then
+        tail -20 "$folder/log"
+        echo "$1: refused"
+        exit 1
+    fi
+    echo "$1: accepted"
 }
 
 refuses copied_handle 'use of moved value' <<'CODE'
@@ -43,3 +55,37 @@ pub fn forged() -> EventHandle<1> {
     }
 }
 CODE
+
+refuses cloned_handle 'is not .Clone' <<'CODE'
+#![tactic(auto)]
+
+use ev_queue::EventHandle;
+use std::alloc::AllocError;
+
+pub fn cloned(handle: &EventHandle<1>) -> Result<EventHandle<1>, AllocError> {
+    handle.clone()
+}
+CODE
+
+# other_queue QUEUE: the code that takes a handle of the first of two queues to this one
+other_queue() {
+    cat <<CODE
+#![tactic(auto)]
+
+use ev_queue::EventQueue;
+use gc_base::{NoMemory, ObjId, SlotNo};
+use std::alloc::Global;
+
+pub fn descheduled(alloc: Global) -> Result<(), NoMemory> {
+    let mut first = EventQueue::new(alloc, &[1])?;
+    let mut second = EventQueue::new(alloc, &[1])?;
+    if let Some(handle) = first.handle::<1>(ObjId(0), SlotNo(0)) {
+        $1.deschedule(&handle);
+    }
+    Ok(())
+}
+CODE
+}
+
+other_queue first | accepts handle_of_the_queue
+other_queue second | refuses handle_of_another_queue 'deschedule-requires'

@@ -4,6 +4,7 @@ pub mod Encodes
 pub mod Fronts
 pub mod Given
 pub mod Joined
+pub mod LayoutLaws
 pub mod Left
 pub mod OperandBack
 pub mod Parts
@@ -11,4 +12,5 @@ pub mod Printed
 pub mod ReadBack
 pub mod Registers
 pub mod RoundTrip
+pub mod SpellingLaws
 pub mod Tokens

@@ -38,11 +38,11 @@ at_below (suc n) k p h lt =
     ]
 
 -- whether an answer is this number
-abbrev is_number : ℕ → Option ℕ → Bool
+abbrev pub is_number : ℕ → Option ℕ → Bool
 is_number n None = false
 is_number n (Some k) = eqb k n
 
-number_is : (n : ℕ) (o : Option ℕ) → is_number n o ≡ true → o ≡ Some n
+pub number_is : (n : ℕ) (o : Option ℕ) → is_number n o ≡ true → o ≡ Some n
 number_is n None h = absurd (cc)
 number_is n (Some k) h = ap Some (eqb-true k n h)
 
@@ -56,8 +56,11 @@ register_facts n lt =
     and_parts (is_number n (register_of (register_name n))) (list_all is_plain (register_name n))
     (at_below 32 n (λ k. is_number k (register_of (register_name k)) && list_all is_plain (register_name k)) registers_read lt)
 
+pub register_of-name : (n : ℕ) → n < 32 → register_of (register_name n) ≡ Some n
+register_of-name n lt = number_is n (register_of (register_name n)) (register_facts n lt).0
+
 pub register_again : (n : ℕ) → n < 32 → register (register_name n) ≡ Ok n
-register_again n lt = ap (λ o. ok_or o Operand) (number_is n (register_of (register_name n)) (register_facts n lt).0)
+register_again n lt = ap (λ o. ok_or o Operand) (register_of-name n lt)
 
 pub register_token : (n : ℕ) → n < 32 → Token (register_name n)
 register_token n lt = record { some = omega arith; plain = (register_facts n lt).1 }

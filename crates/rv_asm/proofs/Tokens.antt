@@ -1,5 +1,5 @@
 -- A line that is put together from a name and operands is taken apart into them.
-use Rattle.std.proofs.Common.{◌≡◌, ℕ, ◌+◌, ◌<◌, List, [], ◌∷◌, ◌++◌, map, reverse, length, get_or, take, drop, Bool, true, false, not, ◌&&◌, ◌||◌, eqb, ltb, Some, None, refl, sym, ap, ◌∙◌, subst, arith}
+use Rattle.std.proofs.Common.{◌≡◌, ℕ, ◌+◌, ◌<◌, List, [], ◌∷◌, ◌++◌, map, reverse, length, get_or, take, drop, Bool, true, false, ◌||◌, eqb, Some, None, refl, sym, ap, ◌∙◌, subst, arith}
 use Rattle.std.proofs.lemmas.Bool.{and_parts}
 use Rattle.std.proofs.lemmas.Bool.Decides.{nat_tests}
 use Rattle.std.proofs.lemmas.List.{append_assoc, append-nil, length-append, reverse-append, reverse-reverse, get_or_at, get_or_append_left, length_push, take_at, take_all, drop_all, drop_at}
@@ -10,23 +10,15 @@ use Rattle.std.specs.Prelude.{if◌then◌else◌}
 use Rattle.gc_text.specs.LineReader.{is_line_feed}
 use Rattle.rv_asm.specs.Bytes.{is_blank, without_blanks_before, without_blanks_after, trimmed, front_of_reversed, without_last}
 use Rattle.rv_asm.specs.Disassembly.{line_text, more_operands}
+pub use Rattle.rv_asm.specs.Layout.{is_plain, Token}
 use Rattle.rv_asm.specs.Lines.{Instruction, is_hash, is_comma, code_of, operands_of, instruction_of, label_before_colon, label_in, labelled, line_of_code, line_of}
-
--- whether a byte is none of those that end a word, a label or a line
-abbrev pub is_plain : ℕ → Bool
-is_plain c = ltb 32 c && (not (eqb c 35) && (not (eqb c 44) && not (eqb c 58)))
-
--- a word of plain bytes
-pub record Token (t : List ℕ) : Type 0 where
-  pub some : 0 < length t
-  pub plain : list_all is_plain t ≡ true
 
 -- a byte that may stand in a line's text
 abbrev is_inside : ℕ → Bool
 is_inside c = is_plain c || (eqb c 32 || eqb c 44)
 
 -- what plain bytes are not
-not_blank : (c : ℕ) → is_plain c ≡ true → is_blank c ≡ false
+pub not_blank : (c : ℕ) → is_plain c ≡ true → is_blank c ≡ false
 not_blank c h = grind (arith, nat_tests)
 
 not_comma : (c : ℕ) → is_plain c ≡ true → is_comma c ≡ false
@@ -81,7 +73,7 @@ first_at q a c b none is =
 pub before_at : (q : ℕ → Bool) (a : List ℕ) (c : ℕ) (b : List ℕ) → All (λ x. q x ≡ false) a → q c ≡ true → before_first q (a ++ c ∷ b) ≡ a
 before_at q a c b none is = ap (λ k. take k (a ++ c ∷ b)) (first_at q a c b none is) ∙ take_at a (c ∷ b) (length a) refl
 
-after_at : (q : ℕ → Bool) (a : List ℕ) (c : ℕ) (b : List ℕ) → All (λ x. q x ≡ false) a → q c ≡ true → after_first q (a ++ c ∷ b) ≡ b
+pub after_at : (q : ℕ → Bool) (a : List ℕ) (c : ℕ) (b : List ℕ) → All (λ x. q x ≡ false) a → q c ≡ true → after_first q (a ++ c ∷ b) ≡ b
 after_at q a c b none is =
     let e : a ++ c ∷ b ≡ (a ++ c ∷ []) ++ b = sym (append_assoc a (c ∷ []) b) in
     ap (λ k. drop (k + 1) (a ++ c ∷ b)) (first_at q a c b none is)
@@ -91,20 +83,20 @@ after_at q a c b none is =
 -- ---- ends
 
 -- a text ends in a plain byte
-record EndsPlain (t : List ℕ) : Type 0 where
-  front : List ℕ
-  last : ℕ
-  is : t ≡ front ++ last ∷ []
-  plain : is_plain last ≡ true
+pub record EndsPlain (t : List ℕ) : Type 0 where
+  pub front : List ℕ
+  pub last : ℕ
+  pub is : t ≡ front ++ last ∷ []
+  pub plain : is_plain last ≡ true
 
-ends_behind : (a t : List ℕ) → EndsPlain t → EndsPlain (a ++ t)
+pub ends_behind : (a t : List ℕ) → EndsPlain t → EndsPlain (a ++ t)
 ends_behind a t e = record { front = a ++ e.front; last = e.last; is = ap (λ u. a ++ u) e.is ∙ sym (append_assoc a e.front (e.last ∷ [])); plain = e.plain }
 
 ends_plain : (c : ℕ) (cs : List ℕ) → list_all is_plain (c ∷ cs) ≡ true → EndsPlain (c ∷ cs)
 ends_plain c [] h = record { front = []; last = c; is = refl; plain = (and_parts (is_plain c) true h).0 }
 ends_plain c (d ∷ ds) h = ends_behind (c ∷ []) (d ∷ ds) (ends_plain d ds (and_parts (is_plain c) (list_all is_plain (d ∷ ds)) h).1)
 
-token_ends : (t : List ℕ) → Token t → EndsPlain t
+pub token_ends : (t : List ℕ) → Token t → EndsPlain t
 token_ends [] k = absurd (omega (arith, k.some))
 token_ends (c ∷ cs) k = ends_plain c cs k.plain
 
@@ -112,16 +104,30 @@ token_ends (c ∷ cs) k = ends_plain c cs k.plain
 reversed : (t : List ℕ) (e : EndsPlain t) → reverse t ≡ e.last ∷ reverse e.front
 reversed t e = ap reverse e.is ∙ reverse-append e.front (e.last ∷ [])
 
+-- a text ends in a byte that isn't a blank
+pub record EndsSolid (t : List ℕ) : Type 0 where
+  pub front : List ℕ
+  pub last : ℕ
+  pub is : t ≡ front ++ last ∷ []
+  pub solid : is_blank last ≡ false
+
 -- no blank stands at its end
-after_ends : (t : List ℕ) → EndsPlain t → without_blanks_after t ≡ t
-after_ends t e =
-    ap (λ r. reverse (without_blanks_before r)) (reversed t e)
-    ∙ ap (λ b. reverse (if b then without_blanks_before (reverse e.front) else e.last ∷ reverse e.front)) (not_blank e.last e.plain)
-    ∙ ap reverse (sym (reversed t e))
+pub after_solid : (t : List ℕ) → EndsSolid t → without_blanks_after t ≡ t
+after_solid t e =
+    let back : reverse t ≡ e.last ∷ reverse e.front = ap reverse e.is ∙ reverse-append e.front (e.last ∷ []) in
+    ap (λ r. reverse (without_blanks_before r)) back
+    ∙ ap (λ b. reverse (if b then without_blanks_before (reverse e.front) else e.last ∷ reverse e.front)) e.solid
+    ∙ ap reverse (sym back)
     ∙ reverse-reverse t
 
+pub solid_plain : (t : List ℕ) → EndsPlain t → EndsSolid t
+solid_plain t e = record { front = e.front; last = e.last; is = e.is; solid = not_blank e.last e.plain }
+
+pub after_ends : (t : List ℕ) → EndsPlain t → without_blanks_after t ≡ t
+after_ends t e = after_solid t (solid_plain t e)
+
 -- and no colon
-colon_ends : (t : List ℕ) → EndsPlain t → without_last 58 t ≡ None
+pub colon_ends : (t : List ℕ) → EndsPlain t → without_last 58 t ≡ None
 colon_ends t e =
     ap (front_of_reversed 58) (reversed t e)
     ∙ ap (λ b. if b then Some (reverse (reverse e.front)) else None) (not_colon e.last e.plain)
@@ -144,7 +150,7 @@ trimmed_token t k =
 abbrev pub Tokens : List (List ℕ) → Type 0
 Tokens ts = AllByRecursion Token ts
 
-no_comma : (t : List ℕ) → Token t → All (λ x. is_comma x ≡ false) t
+pub no_comma : (t : List ℕ) → Token t → All (λ x. is_comma x ≡ false) t
 no_comma t k = none_pass is_plain is_comma not_comma t k.plain
 
 -- a space in front of an operand goes
@@ -164,7 +170,7 @@ parts_again o (p ∷ ps) k ks =
     ∙ ap (λ ts. o ∷ ts) (space_in_front (slice_split is_comma (p ++ more_operands ps)) p ps (parts_again p ps ks.0 ks.1))
 
 -- operands of a text that isn't empty
-operands_some : (t more : List ℕ) → Token t → operands_of (t ++ more) ≡ map trimmed (slice_split is_comma (t ++ more))
+pub operands_some : (t more : List ℕ) → Token t → operands_of (t ++ more) ≡ map trimmed (slice_split is_comma (t ++ more))
 operands_some [] more k = absurd (omega (arith, k.some))
 operands_some (c ∷ cs) more k = refl
 
@@ -206,7 +212,7 @@ code_again name os k ks =
     ∙ after_ends (line_text name os) (ends_line name os k ks)
 
 -- its name and operands
-instruction_again : (name : List ℕ) (os : List (List ℕ)) → Token name → Tokens os → instruction_of (line_text name os) ≡ Instruction name os
+pub instruction_again : (name : List ℕ) (os : List (List ℕ)) → Token name → Tokens os → instruction_of (line_text name os) ≡ Instruction name os
 instruction_again name [] k ks =
     let none = none_pass is_plain is_blank not_blank name k.plain in
     ap (λ n. Instruction n (operands_of (without_blanks_before (after_first is_blank name)))) (before_none is_blank name none)
@@ -220,7 +226,7 @@ instruction_again name (o ∷ os) k ks =
     ∙ ap (Instruction name) (operands_again o os ks.0 ks.1)
 
 -- a code that isn't empty and gives no label is an instruction
-code_is : (t : List ℕ) → 0 < length t → label_in t ≡ None → line_of_code t ≡ instruction_of t
+pub code_is : (t : List ℕ) → 0 < length t → label_in t ≡ None → line_of_code t ≡ instruction_of t
 code_is [] some none = absurd (omega arith)
 code_is (c ∷ cs) some none = ap (λ l. labelled l (c ∷ cs)) none
 

@@ -4,6 +4,7 @@ pub mod Faults
 pub mod Forms
 pub mod Instructions
 pub mod Labels
+pub mod Layout
 pub mod Lines
 pub mod Names
 pub mod Numbers
@@ -11,5 +12,6 @@ pub mod Operands
 pub mod Ranges
 pub mod Seen
 pub mod Source
+pub mod Spellings
 pub mod Steps
 pub mod Targets
