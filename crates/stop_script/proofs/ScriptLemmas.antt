@@ -18,7 +18,7 @@ use Rattle.stop_script.specs.declared.stop.Stop.{Stop}
 -- ---- lines
 
 -- an empty end stands behind other parts as it stands alone
-without_empty_end-cons : (part : List ℕ) (parts : List (List ℕ)) → 0 < length parts → without_empty_end (part ∷ parts) ≡ part ∷ without_empty_end parts
+pub without_empty_end-cons : (part : List ℕ) (parts : List (List ℕ)) → 0 < length parts → without_empty_end (part ∷ parts) ≡ part ∷ without_empty_end parts
 without_empty_end-cons part [] some = absurd (omega arith)
 without_empty_end-cons [] (next ∷ parts) some = refl
 without_empty_end-cons (c ∷ part) (next ∷ parts) some = refl

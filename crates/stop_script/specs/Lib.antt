@@ -1,2 +1,3 @@
 pub mod Stop
 pub mod Script
+pub mod Lines

@@ -1,7 +1,8 @@
 //! The reader of scripts: the text that says how far a machine runs and what is shown on the way.
 //!
 //! Its promise: `read` gives exactly the stops that the lines of a text say, or the number of the first line that says
-//! none. Read `specs/Script.antt` first, from its end upwards, and then `specs/Stop.antt`, which has the forms of a line.
+//! none, and the canonical text of stops reads back. Read `specs/Lines.antt` first, which says line by line what a script
+//! is; `specs/Script.antt` and `specs/Stop.antt` compute it.
 //! It runs nothing: the stops are carried out by the program. Lines of the forms that aren't built yet are refused.
 #![tactic(auto)]
 

@@ -1,7 +1,10 @@
 // The lines of a script, one after another.
-ghost use Rattle.std.specs.Prelude.{◌≡◌, IfOk, IfErr, MatchResult, Ok, Err};
+ghost use Rattle.std.specs.Prelude.{◌≡◌, IfOk, IfErr, MatchResult, Ok, Err, List};
 ghost use Rattle.gc_text.specs.LineReader.{first_line, after_line};
+ghost use Rattle.stop_script.specs.Lines.{IsCanonical, IsScript, TellsRefused};
 ghost use Rattle.stop_script.specs.Script.{NamesLine, TellsLine, is_skipped, line_stop, stops_of};
+ghost use Rattle.stop_script.specs.declared.script_fault.ScriptFault.TheVariants.{NoMemory};
+ghost use Rattle.stop_script.specs.declared.stop.Stop.{Stop};
 
 use crate::line::stop_of;
 use crate::script::Script;
@@ -18,6 +21,25 @@ use std::alloc::Global;
 pub fn read(alloc: Global, bytes: &[u8], _c: &Config) -> Result<Script, ScriptFault>
     ensures stops { IfOk result (λ s. stops_of bytes.now ≡ Ok s.stops) }
     ensures line { IfErr result (λ fault. TellsLine fault (stops_of bytes.now)) }
+
+    // Line by line, and of canonical texts.
+    ensures lines { IfOk result (λ s. IsScript bytes.now s.stops) }
+    ensures refused { IfErr result (λ fault. TellsRefused fault bytes.now) }
+    ensures back { (stops : List Stop) → IsCanonical bytes.now stops
+        → MatchResult result (λ s. s.stops ≡ stops) (λ fault. fault ≡ NoMemory) }
+{
+    match stops_in(alloc, bytes) {
+        Ok(stops) => Ok(Script {
+            stops: Stops::new(stops),
+        }),
+        Err(fault) => Err(fault),
+    }
+}
+
+// The stops of a script's lines.
+fn stops_in(alloc: Global, bytes: &[u8]) -> Result<Vec<Stop>, ScriptFault>
+    ensures stops { IfOk result (λ stops. stops_of bytes.now ≡ Ok stops.items) }
+    ensures line { IfErr result (λ fault. TellsLine fault (stops_of bytes.now)) }
 {
     let mut stops = Vec::new(alloc);
     let mut rest = bytes;
@@ -30,9 +52,7 @@ pub fn read(alloc: Global, bytes: &[u8], _c: &Config) -> Result<Script, ScriptFa
         }
         rest = after;
     }
-    Ok(Script {
-        stops: Stops::new(stops),
-    })
+    Ok(stops)
 }
 
 // The first line of a text, and what stands behind its line feed.

@@ -2,7 +2,7 @@ use Rattle.std.proofs.Common.{◌≡◌, Ok, Err, Result, None, Some, ◌+◌, �
 use Rattle.std.specs.Prelude.{IfErr, IsErrAnd}
 use Rattle.stop_script.specs.Script.{NamesLine, TellsLine, line_stop, script_lines, stops_from, stops_of}
 use Rattle.stop_script.proofs.ScriptLemmas.{length-filled, line_stop-number, onto, stops_from-moves, stops_from-stops}
-use Rattle.stop_script.proofs.reader.read.Goals as goal
+use Rattle.stop_script.proofs.reader.stops_in.Goals as goal
 
 -- what holds of the error holds of it where there is one
 IfErr-from_and : {T E : Type 0} (r : Result T E) (P Q : E → Type 0) → IsErrAnd r P → ((e : E) → P e → Q e) → IfErr r Q

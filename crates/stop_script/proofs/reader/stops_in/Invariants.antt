@@ -1,7 +1,7 @@
 use Rattle.std.proofs.Common.{◌≡◌, ◌+◌, ◌≤◌, length}
 use Rattle.stop_script.specs.Script.{script_lines, stops_from, stops_of}
 use Rattle.stop_script.proofs.ScriptLemmas.{onto}
-use Rattle.stop_script.proofs.reader.read.Given as goal
+use Rattle.stop_script.proofs.reader.stops_in.Given as goal
 
 abbrev pub invariant-loop-rest : goal.invariant-loop-rest
 invariant-loop-rest l = record {
