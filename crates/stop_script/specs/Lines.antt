@@ -1,4 +1,4 @@
--- Scripts line by line: what each line says, which one is refused, and the canonical text of stops. Source: this project's own rule.
+-- Scripts line by line: what a line says, which one is refused, and canonical texts. Source: this project's own rule.
 use Rattle.std.specs.Prelude.{◌≡◌, ◌⊎◌, ℕ, ◌+◌, ◌<◌, ◌≤◌, List, [], ◌∷◌, ◌++◌, All, Option, Some, None, length, option_to_list, codes, decimal, ⊤}
 use Rattle.gm_model.specs.declared.goal.Until.{Until}
 use Rattle.gm_model.specs.declared.goal.Until.TheVariants.{Tick, Insts, End}
@@ -49,7 +49,8 @@ LineSays line (Some stop) = SaysStop line stop
 abbrev pub LinesSay : List (List ℕ) → List Stop → Type 0
 LinesSay [] stops = stops ≡ []
 LinesSay (line ∷ lines) stops =
-    (said : Option Stop) × (later : List Stop) × LineSays line said × LinesSay lines later × (stops ≡ option_to_list said ++ later)
+    (said : Option Stop) × (later : List Stop) × LineSays line said × LinesSay lines later
+    × (stops ≡ option_to_list said ++ later)
 
 -- a text of few lines that say these stops
 pub record IsScript (text : List ℕ) (stops : List Stop) : Type 0 where
