@@ -9,6 +9,7 @@ use std::str;
 use std::test::Fail;
 
 mod files;
+mod ticks;
 
 /// A machine with 64 KiB of RAM: its model, its budget, more keys of `cpu`, the latency of `corebus`, and more sections.
 macro_rules! config {
