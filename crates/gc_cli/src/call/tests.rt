@@ -8,6 +8,7 @@ use std::process::Abort;
 use std::str;
 use std::test::Fail;
 
+mod examples;
 mod files;
 mod ticks;
 
@@ -712,6 +713,21 @@ fn expect_call(
 fn expect_calls(rt: &(impl Abort + AllocGlobal), cases: &[Case]) -> Result<(), Fail> {
     for case in cases {
         let mut store = store_of(rt, case)?;
+        expect_call(rt, case, &mut store)?;
+    }
+    Ok(())
+}
+
+/// Assembles the source of each case, runs what comes of it, and compares what is written, each over a store of its own.
+fn expect_assembled_and_run(rt: &(impl Abort + AllocGlobal), cases: &[Case]) -> Result<(), Fail> {
+    for case in cases {
+        let mut store = store_of(rt, case)?;
+        let assembled = Case {
+            name: case.name,
+            words: ASM,
+            ..SILENT
+        };
+        expect_call(rt, &assembled, &mut store)?;
         expect_call(rt, case, &mut store)?;
     }
     Ok(())

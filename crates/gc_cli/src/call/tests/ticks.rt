@@ -10,7 +10,7 @@
 //
 // A program ends by a wfi, whose own event is the last one, at the tick to which all before it led. Where no byte is being sent,
 // nothing is pending then.
-use super::{ASM, Case, SILENT, Text, expect_call, store_of};
+use super::{Case, SILENT, Text, expect_assembled_and_run};
 use std::test::Fail;
 
 /// A machine in which no two things take equally long, and how long its UART sends a byte.
@@ -306,15 +306,5 @@ run idle at 1200111 insts 0 events 0\n",
 
 #[test]
 fn ticks_are_what_each_access_and_event_takes(rt: HostRuntime) -> Result<(), Fail> {
-    for case in &TICKS {
-        let mut store = store_of(&rt, case)?;
-        let assembled = Case {
-            name: case.name,
-            words: ASM,
-            ..SILENT
-        };
-        expect_call(&rt, &assembled, &mut store)?;
-        expect_call(&rt, case, &mut store)?;
-    }
-    Ok(())
+    expect_assembled_and_run(&rt, &TICKS)
 }
