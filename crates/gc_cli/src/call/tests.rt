@@ -403,7 +403,7 @@ const REFUSED_SOURCE: Case = Case {
 };
 
 /// Calls over ELF files and over sources.
-static PROGRAM_CASES: [Case; 26] = [
+static PROGRAM_CASES: [Case; 27] = [
     Case {
         name: "segment_past_ram",
         // 4 bytes of the file, and 65,537 of memory
@@ -526,6 +526,14 @@ static PROGRAM_CASES: [Case; 26] = [
     Case {
         name: "flat_exits",
         files: &[("image", Bytes(&PROGRAM_FILE))],
+        words: FLAT,
+        console: b"\x01",
+        report: and_registers!("flat exit 0 steps 5\n"),
+        ..SILENT
+    },
+    Case {
+        name: "flat_exits_of_raw_image",
+        files: &[IMAGE],
         words: FLAT,
         console: b"\x01",
         report: and_registers!("flat exit 0 steps 5\n"),
