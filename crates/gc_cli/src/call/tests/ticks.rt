@@ -17,7 +17,7 @@ use std::test::Fail;
 macro_rules! config_of_chartime {
     ($chartime:literal) => {
         concat!(
-            "[system]\nline = 16\nmodel = \"atomic\"\nram = 65536\nbudget = 1000000\n[cpu]\nperiod = 100000\n",
+            "[system]\nline = 16\nmodel = \"atomic\"\nram = 65536\nbudget = 1000\n[cpu]\nperiod = 100000\n",
             "[corebus]\nlatency = 1\n[membus]\nlatency = 10\n[mem]\nlatency = 100\nqueue = 1\n",
             "[uart]\nlatency = 1000\nchartime = ",
             $chartime,
