@@ -1,18 +1,39 @@
 #!/bin/sh
 # Checks the examples, by hand, from the top of the repository: each shipped image is the one that `gemcore asm` makes of its
-# source, and a C program compiled at -O0 and at -O2 runs over flat memory and in a machine. The second half is skipped where
-# riscv64-unknown-elf-gcc is missing.
+# source, each example writes what is stored beside it, and a C program compiled at -O0 and at -O2 runs over flat memory and in a
+# machine. The last part is skipped where riscv64-unknown-elf-gcc is missing. GEMCORE names another program than bin/gemcore.
 set -eu
 cd "$(dirname "$0")/.."
+gemcore=${GEMCORE:-bin/gemcore}
 folder=$(mktemp -d)
 trap 'rm -rf "$folder"' EXIT
 
 for source in examples/*.s; do
     image=${source%.s}.elf
-    bin/gemcore asm "$source" "$folder/image.elf"
+    "$gemcore" asm "$source" "$folder/image.elf"
     cmp "$image" "$folder/image.elf"
     echo "$image is that of $source"
 done
+
+# What an example writes: its stored console, or /dev/null for none, its stored report, and its words.
+expect() {
+    console=$1
+    report=$2
+    shift 2
+    "$gemcore" "$@" >"$folder/console" 2>"$folder/report"
+    cmp "$console" "$folder/console"
+    cmp "$report" "$folder/report"
+    echo "$report is what gemcore $* writes"
+}
+
+machine=examples/machine.toml
+expect examples/hello.console examples/hello.report run "$machine" examples/hello.elf examples/hello.script
+expect examples/hello.console examples/steps.report run "$machine" examples/hello.elf examples/steps.script
+expect examples/hello.console examples/hello.flat.report flat examples/hello.elf 1000
+expect /dev/null examples/fibonacci.report run "$machine" examples/fibonacci.elf examples/hello.script
+expect /dev/null examples/trap.report run "$machine" examples/trap.elf examples/hello.script
+python3 scripts/example_cases.py --check
+echo "the tests of gc_cli have the examples as they stand"
 
 if ! command -v riscv64-unknown-elf-gcc >/dev/null; then
     echo "skipped: riscv64-unknown-elf-gcc is missing"
@@ -20,8 +41,8 @@ if ! command -v riscv64-unknown-elf-gcc >/dev/null; then
 fi
 for level in -O0 -O2; do
     examples/c/build.sh "$folder/primes.elf" "$level" examples/c/primes.c
-    bin/gemcore flat "$folder/primes.elf" 1000000 >"$folder/flat.console" 2>"$folder/flat.report"
-    bin/gemcore run examples/machine.toml "$folder/primes.elf" examples/hello.script >"$folder/run.console" 2>"$folder/run.report"
+    "$gemcore" flat "$folder/primes.elf" 1000000 >"$folder/flat.console" 2>"$folder/flat.report"
+    "$gemcore" run examples/machine.toml "$folder/primes.elf" examples/hello.script >"$folder/run.console" 2>"$folder/run.report"
     printf '2 3 5 7 11 13 17 19 23 29 31 37 41 43 47 53 59 61 67 71 73 79 83 89 97\n' >"$folder/expected"
     cmp "$folder/flat.console" "$folder/expected"
     cmp "$folder/run.console" "$folder/expected"

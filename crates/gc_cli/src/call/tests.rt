@@ -8,7 +8,9 @@ use std::process::Abort;
 use std::str;
 use std::test::Fail;
 
+mod examples;
 mod files;
+mod ticks;
 
 /// A machine with 64 KiB of RAM: its model, its budget, more keys of `cpu`, the latency of `corebus`, and more sections.
 macro_rules! config {
@@ -401,7 +403,7 @@ const REFUSED_SOURCE: Case = Case {
 };
 
 /// Calls over ELF files and over sources.
-static PROGRAM_CASES: [Case; 26] = [
+static PROGRAM_CASES: [Case; 27] = [
     Case {
         name: "segment_past_ram",
         // 4 bytes of the file, and 65,537 of memory
@@ -524,6 +526,14 @@ static PROGRAM_CASES: [Case; 26] = [
     Case {
         name: "flat_exits",
         files: &[("image", Bytes(&PROGRAM_FILE))],
+        words: FLAT,
+        console: b"\x01",
+        report: and_registers!("flat exit 0 steps 5\n"),
+        ..SILENT
+    },
+    Case {
+        name: "flat_exits_of_raw_image",
+        files: &[IMAGE],
         words: FLAT,
         console: b"\x01",
         report: and_registers!("flat exit 0 steps 5\n"),
@@ -711,6 +721,21 @@ fn expect_call(
 fn expect_calls(rt: &(impl Abort + AllocGlobal), cases: &[Case]) -> Result<(), Fail> {
     for case in cases {
         let mut store = store_of(rt, case)?;
+        expect_call(rt, case, &mut store)?;
+    }
+    Ok(())
+}
+
+/// Assembles the source of each case, runs what comes of it, and compares what is written, each over a store of its own.
+fn expect_assembled_and_run(rt: &(impl Abort + AllocGlobal), cases: &[Case]) -> Result<(), Fail> {
+    for case in cases {
+        let mut store = store_of(rt, case)?;
+        let assembled = Case {
+            name: case.name,
+            words: ASM,
+            ..SILENT
+        };
+        expect_call(rt, &assembled, &mut store)?;
         expect_call(rt, case, &mut store)?;
     }
     Ok(())
