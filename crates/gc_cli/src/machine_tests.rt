@@ -15,9 +15,9 @@ use crate::call::tests::{
 };
 use cfg_tree::Config;
 use cpu_atomic::AtomicCpu;
-use gc_base::{NoMemory, ObjId};
-use gm_model::platform::{ATOMIC_CPU, RAM_BASE, UART};
-use gm_model::{Goal, Kind, Reason, Until};
+use gc_base::{NoMemory, ObjId, PktId};
+use gm_model::platform::{ATOMIC_CPU, RAM_BASE, UART, UART_BASE};
+use gm_model::{Entry, Goal, Kind, Reason, Until};
 use kernel::{BuildFault, Fired, Machine, RunEnd, RunFault};
 use obj_core::SimObject;
 use obj_counted::Counted;
@@ -47,8 +47,8 @@ enum Asked {
     Runs(&'static [(Until, u64); 2], &'static [End; 3]),
     /// To serve seven events. It tells of each.
     Events(&'static [Told; 7]),
-    /// To run to the end, while the console refuses the first byte. It tells at which tick that was.
-    RefusedByte(u64),
+    /// To run to the end, while the console refuses the first byte. It tells at which tick that was, and what its event noted.
+    RefusedByte(u64, &'static [Entry; 3]),
 }
 
 /// What is done with parts.
@@ -222,11 +222,12 @@ fn expect_told(
             assert_eq!(rt; sinks.console.bytes(), [1].as_slice());
         }
         Asked::Events(events) => assert_eq!(rt; seven(machine, &mut sinks)?, *events),
-        Asked::RefusedByte(tick) => {
+        Asked::RefusedByte(tick, entries) => {
             assert!(rt; sinks.console.fail_at(0));
             let refused = run(machine, goal(Until::End, BUDGET), &mut sinks);
             assert_eq!(rt; refused, Err(RunFault::Console));
             assert_eq!(rt; machine.now().get(), tick);
+            assert_eq!(rt; machine.entries(), entries.as_slice());
         }
     }
     Ok(())
@@ -362,9 +363,37 @@ fn each_event_is_served_at_its_own_tick(rt: HostRuntime) -> Result<(), Fail> {
     expect_counted(&rt, &EVENTS)
 }
 
+// The store is fetched, its byte goes to the UART, and it retires.
+static STORED: [Entry; 3] = [
+    Entry::Served {
+        src: 0,
+        id: PktId(2),
+        write: false,
+        addr: RAM_BASE + 8,
+        size: 4,
+        bytes: [0x23, 0x00, 0x55, 0x00, 0, 0, 0, 0],
+        device: false,
+        fault: false,
+    },
+    Entry::Served {
+        src: 1,
+        id: PktId(3),
+        write: true,
+        addr: UART_BASE,
+        size: 1,
+        bytes: [1, 0, 0, 0, 0, 0, 0, 0],
+        device: true,
+        fault: false,
+    },
+    Entry::Retired {
+        pc: RAM_BASE + 8,
+        word: 0x0055_0023,
+    },
+];
+
 // Three events, three fetches and a store wake the parts.
 static REFUSED_BYTE: [Counting; 1] = [Counting {
-    used: Use::Machine(Asked::RefusedByte(4_400)),
+    used: Use::Machine(Asked::RefusedByte(4_400, &STORED)),
     wakes: 7,
     ..RUN
 }];

@@ -13,7 +13,7 @@ use Rattle.gm_model.specs.Command.{resume_step}
 use Rattle.gm_model.specs.Sys.{Sys}
 use Rattle.gm_model.specs.View.{own_ram}
 use Rattle.gm_model.specs.Start.{commanded, commanded_events, resumed_state, start_state, with_raw}
-use Rattle.gm_model.specs.Sound.{IsSound, HasSoundParts, given_table}
+use Rattle.gm_model.specs.Sound.{IsSound, given_table}
 use Rattle.cfg_tree.specs.Valid.{IsValidConfig}
 use Rattle.gm_model.specs.Platform.{platform}
 use Rattle.cfg_tree.specs.declared.config.Config.{Config}
@@ -21,7 +21,7 @@ use Rattle.gm_model.specs.declared.kind.Kind.TheVariants as kinds
 use Rattle.gm_model.proofs.Started.{starts_sound}
 use Rattle.obj_core.specs.Events.{with_changes}
 use Rattle.obj_core.specs.Handles.{HasHandles}
-use Rattle.kernel.proofs.Allowed.{handles-at}
+use Rattle.kernel.proofs.UnderWay.{part_handles}
 
 pub put_sound : (s s' : Sys) (table table' : List Slot) (address : ℕ) (bytes : List ℕ) → IsSound s table → 0x80000000 ≤ address
     → address - 0x80000000 + length bytes ≤ length (own_ram s.objects) → s' ≡ with_raw (0x80000000 + (address - 0x80000000)) bytes s → table' ≡ table → IsSound s' table'
@@ -122,7 +122,7 @@ module _ {X : Type 0} (f : X → ObjState) (c : ObjState → Commanded) (all : L
         rw (add-one, w) (subst P rest_first h)
 
 -- a part that wasn't commanded yet has its handles
-pub handles_still : {X : Type 0} (f : X → ObjState) (s : Sys) (table table' : List Slot) (xs : List X) (i : ℕ) (b : X) → HasSoundParts s table → table' ≡ table
+pub handles_still : {X : Type 0} (f : X → ObjState) (s : Sys) (table table' : List Slot) (xs : List X) (i : ℕ) (b : X) → IsSound s table → table' ≡ table
     → i < length xs → b ≡ get_or xs i b → drop i (map f xs) ≡ drop i s.objects → HasHandles table' (f b)
 handles_still f s table table' xs i b h t here is rest = by_place (cases_lt i (length s.objects)) where
   nothing : Commanded
@@ -132,5 +132,5 @@ handles_still f s table table' xs i b h t here is rest = by_place (cases_lt i (l
   by_place (inl l) =
       let same = untouched f (λ o. nothing) s.objects xs i b b here is rest in
       let P : ObjState → Type 0 = λ o. HasHandles table' o in
-      subst P same (rw t (handles-at s table i h l))
+      subst P same (rw t (part_handles s table i h l))
   by_place (inr l) = let none : ◌≡◌ {A = List ObjState} [] (f b ∷ drop (suc i) s.objects) = sym (drop_of_length-le s.objects l) ∙ rest_first f (λ o. nothing) s.objects xs i b b here is rest in cc

@@ -1,152 +1,148 @@
 -- Items that are delivered one after another.
-use Rattle.std.proofs.Common.{◌≡◌, ℕ, suc, zero, ◌+◌, ◌*◌, ◌-◌, ◌^◌, ◌<◌, ◌≤◌, length, refl, sym, ◌∙◌, ap, subst, arith, List, [], ◌∷◌, drop, Option, Some, None}
+use Rattle.std.proofs.Common.{◌≡◌, ℕ, suc, zero, ◌+◌, ◌-◌, ◌<◌, ◌≤◌, ◌==◌, ◌⊎◌, inl, inr, Bool, true, length, refl, sym, ◌∙◌, ap, subst, arith, List, [], ◌∷◌, ◌++◌, drop}
+use Rattle.std.proofs.lemmas.Bool.{cases_lt, eqb-true}
+use Rattle.std.proofs.lemmas.List.{length-append}
 use Rattle.ev_queue.specs.declared.slot.Slot.{Slot}
 use Rattle.gm_model.specs.Router.{destination}
-use Rattle.gm_model.specs.Sys.{Sys, active_cpu}
-use Rattle.gm_model.specs.Deliver.{Item, Sent, Done, Delivery, handle, deliver, deliver_act, deliver_first, deliver_wake, deliver_line, deliver_atomic, sent_by}
+use Rattle.gm_model.specs.Sys.{Sys}
+use Rattle.gm_model.specs.Deliver.{Item, Sent, Done, Delivery, handle, deliver, deliver_first, deliver_wake, deliver_atomic}
+use Rattle.gc_base.specs.declared.ids.ObjId.{ObjId}
 use Rattle.gc_base.specs.declared.ids.PortNo.{PortNo}
 use Rattle.gm_model.specs.declared.act.Act.{Act}
 use Rattle.gm_model.specs.declared.act.Act.TheVariants as acts
-use Rattle.gm_model.specs.declared.entry.Entry.{Entry}
 use Rattle.gm_model.specs.declared.packet.Packet.{Packet}
 use Rattle.gm_model.specs.declared.wake.Wake.TheVariants as wakes
 use Rattle.ev_queue.specs.declared.due.Due.{Due}
 use Rattle.gm_model.specs.Fire.{event_begun}
-use Rattle.gm_model.specs.Sound.{IsCountedUpTo}
-use Rattle.gm_model.proofs.SoundEvents.{deliver_sound, delivered_sound}
-use Rattle.kernel.proofs.EntryLemmas.{counted_up_to}
-use Rattle.kernel.specs.Ready.{IsUnderWay, MayServe, not_begun, with_first, delivered_twice}
-use Rattle.kernel.proofs.Allowed.{one_item, only_one}
+use Rattle.obj_core.specs.Out.{item_of}
+use Rattle.obj_core.specs.declared.item.Item.{Item as KeptItem}
+use Rattle.obj_core.specs.declared.item.Item.TheVariants as kept
+use Rattle.kernel.specs.Ready.{IsReadyForWake, IsUnderWay, Delivers, HasItemRoom, MayServe, not_begun, answered}
+use Rattle.kernel.proofs.Deliveries.{deliver_least, deliver_none, deliver_then}
+use Rattle.kernel.proofs.UnderWay.{IsCountable, done_ready, first_under_way, all_delivered, under_way_countable}
 
--- a delivery counts nothing
-counts_kept : (d : Delivery) (i : Item) → (handle d i).sys.counts ≡ d.sys.counts
-counts_kept d (Sent j (acts.Offer port p)) = refl
-counts_kept d (Sent j (acts.CallRetry port)) = refl
-counts_kept d (Sent j (acts.SetLine bit level)) = by_cpu (active_cpu d.sys.objects) where
-  by_cpu : (o : Option ℕ) → (deliver_line d j (wakes.Line bit level) o).sys.counts ≡ d.sys.counts
-  by_cpu None = refl
-  by_cpu (Some i) = refl
-counts_kept d (Sent j (acts.Atomic port p)) = by_route (destination d.sys.router.routes p.addr) where
-  by_route : (o : Option ℕ) → (deliver_atomic d j p o).sys.counts ≡ d.sys.counts
-  by_route None = refl
-  by_route (Some i) = refl
-counts_kept d (Done j p latency) = refl
-
-pub deliver_counts : (n : ℕ) (d : Delivery) → (deliver n d).sys.counts ≡ d.sys.counts
+-- after so many deliveries the event is still under way
+pub more_under_way : (n : ℕ) (d : Delivery) (table : List Slot) → IsUnderWay d table → IsUnderWay (deliver n d) table
 unfolding deliver
-deliver_counts zero d = refl
-deliver_counts (suc n) d = deliver_counts n (deliver_first d d.items) ∙ first_counts d.items where
-  first_counts : (is : List Item) → (deliver_first d is).sys.counts ≡ d.sys.counts
-  first_counts [] = refl
-  first_counts (i ∷ is) = counts_kept (record d { items = is }) i
+more_under_way zero d table h = h
+more_under_way (suc n) d table h = more_under_way n (deliver_first d d.items) table (first_under_way d table h)
 
--- with nothing to deliver, nothing happens
-deliver_none : (n : ℕ) (d : Delivery) → d.items ≡ [] → deliver n d ≡ d
+pub still_under_way : (n : ℕ) (d e : Delivery) (table : List Slot) → Delivers n d e → IsUnderWay d table → IsUnderWay e table
+still_under_way n d e table t h = let P : Delivery → Type 0 = λ x. IsUnderWay x table in subst P (sym t.delivered) (more_under_way t.count d table h)
+
+-- an item more
+pub delivers_none : (d : Delivery) → Delivers 0 d d
 unfolding deliver
-deliver_none zero d e = refl
-deliver_none (suc n) d e = (let P : List Item → Type 0 = λ is. deliver n (deliver_first d is) ≡ d in subst P (sym e) (deliver_none n d e))
+delivers_none d = record { count = 0; enough = omega arith; delivered = refl }
 
--- so many deliveries more are still allowed
-more_under_way : (n : ℕ) (d : Delivery) (table : List Slot) → IsUnderWay d table → IsUnderWay (deliver n d) table
-more_under_way n d table h = record {
-  sound = deliver_sound n d table h.sound;
-  events = (let Q : ℕ → Type 0 = λ m. m < 2 ^ 55 in subst Q (ap (λ c. c.events) (sym (deliver_counts n d))) h.events);
+pub delivers_more : (n : ℕ) (d e f : Delivery) → Delivers n d e → Delivers 1 e f → Delivers (n + 1) d f
+delivers_more n d e f t u = record {
+  count = t.count + u.count;
+  enough = omega (arith, t.enough, u.enough);
+  delivered = u.delivered ∙ (ap (λ x. deliver u.count x) t.delivered ∙ deliver_then t.count u.count d);
 }
 
--- an item is delivered, and then the next
-twice : (d : Delivery) → deliver 2 d ≡ delivered_twice d
+-- however many more than 256 are delivered, the same is left
+pub delivers_all : (n : ℕ) (d e : Delivery) (table : List Slot) → 256 ≤ n → IsUnderWay d table → Delivers n d e → e ≡ deliver 256 d
+delivers_all n d e table l h t =
+    let more : ℕ = t.count - 256 in
+    let P : ℕ → Type 0 = λ k. e ≡ deliver k d in
+    let same : t.count ≡ 256 + more = omega (arith, l, t.enough) in
+    subst P same t.delivered ∙ (sym (deliver_then 256 more d) ∙ deliver_none more (deliver 256 d) (all_delivered d table h))
+
+-- where nothing is left, all were delivered
+pub delivers_last : (n : ℕ) (d e : Delivery) (table : List Slot) → e.items ≡ [] → IsUnderWay d table → Delivers n d e → e ≡ deliver 256 d
+delivers_last n d e table none h t = by_order (cases_lt t.count 256) where
+  landed : (deliver t.count d).items ≡ []
+  landed = ap (λ x. x.items) (sym t.delivered) ∙ none
+
+  by_order : (t.count < 256) ⊎ (256 ≤ t.count) → e ≡ deliver 256 d
+  by_order (inl l) =
+      let left : ℕ = 256 - t.count in
+      let P : ℕ → Type 0 = λ k. deliver left (deliver t.count d) ≡ deliver k d in
+      let same : t.count + left ≡ 256 = omega (arith, l) in
+      t.delivered ∙ (sym (deliver_none left (deliver t.count d) landed) ∙ subst P same (deliver_then t.count left d))
+  by_order (inr l) = delivers_all t.count d e table l h (record { count = t.count; enough = omega arith; delivered = t.delivered })
+
+-- there is always room for what the first item causes
+pub items_few : (d : Delivery) (table : List Slot) → IsUnderWay d table → length d.items ≤ 256
+items_few d table h = omega (arith, deliver_least 256 d, ap (λ xs. length xs) (all_delivered d table h))
+
+pub rest_room : (d : Delivery) (table : List Slot) (i : Item) (is : List Item) → d.items ≡ i ∷ is → IsUnderWay d table → HasItemRoom (record d { items = is })
+rest_room d table i is e h = omega (arith, items_few d table h, ap (λ xs. length xs) e)
+
+-- the first item is delivered
+pub first_delivered : (d e : Delivery) (i : Item) (is : List Item) → d.items ≡ i ∷ is → e ≡ handle (record d { items = is }) i → Delivers 1 d e
 unfolding deliver
-twice d = refl
+first_delivered d e i is f g = record {
+  count = 1;
+  enough = omega arith;
+  delivered = g ∙ sym (ap (λ xs. deliver_first d xs) f);
+}
 
-pub still_under_way : (d after : Delivery) (table : List Slot) → after ≡ delivered_twice d → IsUnderWay d table → IsUnderWay after table
-still_under_way d after table e h = let P : Delivery → Type 0 = λ x. IsUnderWay x table in subst P (sym (e ∙ sym (twice d))) (more_under_way 2 d table h)
+-- no item is an empty list
+pub none_of_length : (xs : List Item) → (length xs == 0) ≡ true → xs ≡ []
+none_of_length [] h = refl
+none_of_length (x ∷ xs) h = absurd (omega (arith, eqb-true (length (x ∷ xs)) 0 h))
 
-pub two_delivered : (n : ℕ) (d after all : Delivery) → n < 128 → after ≡ delivered_twice d → deliver (256 - 2 * n) d ≡ all → deliver (256 - 2 * (n + 1)) after ≡ all
+-- what the first item is, as it is kept
+pub sent_first : (items : List Item) (k : KeptItem) (sender : ObjId) (a b : Act) → items ≡ item_of k ∷ drop 1 items → k ≡ kept.Sent sender a → a ≡ b
+    → items ≡ Sent sender.0 b ∷ drop 1 items
+sent_first items k sender a b e f g =
+    let P : KeptItem → Type 0 = λ x. items ≡ item_of x ∷ drop 1 items in
+    let Q : Act → Type 0 = λ x. items ≡ Sent sender.0 x ∷ drop 1 items in
+    subst Q g (subst P f e)
+
+pub done_first : (items : List Item) (k : KeptItem) (sender : ObjId) (p : Packet) (latency : ℕ) → items ≡ item_of k ∷ drop 1 items → k ≡ kept.Done sender p latency
+    → items ≡ Done sender.0 p latency ∷ drop 1 items
+done_first items k sender p latency e f = let P : KeptItem → Type 0 = λ x. items ≡ item_of x ∷ drop 1 items in subst P f e
+
+-- a sender is told at once
+pub told_now : (d e : Delivery) (i latency : ℕ) (p : Packet) → d.items ≡ [] → e ≡ deliver_wake d i (wakes.AtomicDone p latency) → Delivers 0 (answered d i p latency) e
 unfolding deliver
-two_delivered n d after all l e h =
-    let more : 256 - 2 * n ≡ suc (suc (256 - 2 * (n + 1))) = omega arith in
-    let P : ℕ → Type 0 = λ m. deliver m d ≡ all in
-    rw e (subst P more h)
+told_now d e i latency p none f = record {
+  count = 1;
+  enough = omega arith;
+  delivered = (let P : List Item → Type 0 = λ xs. e ≡ deliver_wake (record d { items = xs }) i (wakes.AtomicDone p latency) in
+      let Q : List Item → Type 0 = λ xs. e ≡ deliver_first (record d { items = xs ++ Done i p latency ∷ [] }) (xs ++ Done i p latency ∷ []) in
+      subst Q (sym none) (subst P none f));
+}
 
--- the machine s in the middle of an event, with the acts of the object j in flight
-module _ (s : Sys) (es : List Entry) (j : ℕ) (asked : List Act) where
-  abbrev flying : List Act → Delivery
-  flying list = record { sys = s; items = sent_by j list; entries = es }
+-- or later
+pub told_later : (d e : Delivery) (i latency : ℕ) (p : Packet) → e ≡ answered d i p latency → Delivers 0 (answered d i p latency) e
+unfolding deliver
+told_later d e i latency p f = record { count = 0; enough = omega arith; delivered = f }
 
-  -- none is left
-  pub none_left : (n : ℕ) (all : Delivery) → asked ≡ [] → deliver (256 - 2 * n) (flying asked) ≡ all → flying [] ≡ all
-  none_left n all e h =
-      let P : List Act → Type 0 = λ list. deliver (256 - 2 * n) (flying list) ≡ all in
-      sym (deliver_none (256 - 2 * n) (flying []) refl) ∙ subst P e h
+-- the first item is a packet, which was passed on: `after` is the machine before its sender is told
+module _ (d : Delivery) (table : List Slot) (i : ℕ) (port : PortNo) (p : Packet) (is : List Item) (e : d.items ≡ Sent i (acts.Atomic port p) ∷ is) (h : IsUnderWay d table)
+    (after : Delivery) (q : Packet) (latency : ℕ) (m : answered after i q latency ≡ deliver_atomic (record d { items = is }) i p (destination d.sys.router.routes p.addr)) where
+  passed_first : answered after i q latency ≡ deliver_first d d.items
+  passed_first = m ∙ sym (ap (λ xs. deliver_first d xs) e)
 
-  -- or all the deliveries were made
-  pub all_made : (n : ℕ) (b : Delivery) (table : List Slot) → 128 ≤ n → IsUnderWay b table → deliver (256 - 2 * n) (flying asked) ≡ deliver 256 b
-      → flying [] ≡ deliver 256 b
+  passed_under_way : IsUnderWay (answered after i q latency) table
+  passed_under_way = let P : Delivery → Type 0 = λ x. IsUnderWay x table in subst P (sym passed_first) (first_under_way d table h)
+
+  pub answer_room : HasItemRoom after
+  answer_room = omega (arith, items_few (answered after i q latency) table passed_under_way, length-append after.items (Done i q latency ∷ []))
+
+  pub answer_ready : after.items ≡ [] → IsReadyForWake after table i (wakes.AtomicDone q latency)
+  answer_ready none =
+      let P : List Item → Type 0 = λ xs. IsReadyForWake (record after { items = xs }) table i (wakes.AtomicDone q latency) in
+      subst P (sym none) (done_ready (answered after i q latency) table i latency q [] (ap (λ xs. xs ++ Done i q latency ∷ []) none) passed_under_way)
+
+  pub packet_delivered : (last : Delivery) → Delivers 0 (answered after i q latency) last → Delivers 1 d last
   unfolding deliver
-  all_made n b table l u h =
-      let zeroed : 256 - 2 * n ≡ 0 = omega (arith, l) in
-      let P : ℕ → Type 0 = λ m. deliver m (flying asked) ≡ deliver 256 b in
-      let same : flying asked ≡ deliver 256 b = subst P zeroed h in
-      let none : sent_by j asked ≡ [] = ap (λ x. x.items) same ∙ (delivered_sound b table u.sound).1 in
-      let Q : List Item → Type 0 = λ is. (let d : Delivery = record { sys = s; items = is; entries = es } in d) ≡ deliver 256 b in
-      subst Q none same
-
--- the same where one is left, which is alone
-module _ (s : Sys) (es : List Entry) (j : ℕ) (asked : List Act) (act : Act) (table : List Slot) (first : asked ≡ act ∷ drop 1 asked)
-    (h : IsUnderWay (record { sys = s; items = sent_by j asked; entries = es }) table) where
-  abbrev taken : Delivery
-  taken = record { sys = s; items = []; entries = es }
-
-  abbrev before : Delivery
-  before = with_first (Sent j act) taken
-
-  alone : sent_by j asked ≡ Sent j act ∷ []
-  alone =
-      let P : List Act → Type 0 = λ list. sent_by j list ≡ Sent j act ∷ sent_by j (drop 1 asked) in
-      let both : sent_by j asked ≡ Sent j act ∷ sent_by j (drop 1 asked) = subst P (sym first) refl in
-      let none : sent_by j (drop 1 asked) ≡ [] = only_one _ (Sent j act) _ both (one_item _ _ _ _ _ h.sound.machine.step) in
-      both ∙ ap (λ is. Sent j act ∷ is) none
-
-  pub alone_under_way : IsUnderWay before table
-  alone_under_way = let P : List Item → Type 0 = λ is. IsUnderWay (record { sys = s; items = is; entries = es }) table in subst P alone h
-
-  -- a packet is passed on
-  pub passed_under_way : (port : PortNo) (p : Packet) (after : Delivery) → act ≡ acts.Atomic port p
-      → after ≡ deliver_atomic taken j p (destination s.router.routes p.addr) → IsUnderWay after table
-  unfolding deliver
-  passed_under_way port p after f m =
-      let P : Delivery → Type 0 = λ x. IsUnderWay x table in
-      subst P (sym (m ∙ sym (ap (λ a. deliver_act taken j a) f))) (more_under_way 1 before table alone_under_way)
-
-  -- and its sender is told of it
-  pub exchanged : (latency : ℕ) (port : PortNo) (p q : Packet) (s' : Sys) (es' : List Entry) (after : Delivery) → act ≡ acts.Atomic port p
-      → (let d : Delivery = record { sys = s'; items = Done j q latency ∷ []; entries = es' } in d) ≡ deliver_atomic taken j p (destination s.router.routes p.addr)
-      → after ≡ deliver_wake (record { sys = s'; items = []; entries = es' }) j (wakes.AtomicDone q latency)
-      → after ≡ delivered_twice (record { sys = s; items = sent_by j asked; entries = es })
-  exchanged latency port p q s' es' after f m w =
-      let P : Delivery → Type 0 = λ x. after ≡ deliver_first x x.items in
-      let told : after ≡ deliver_first (deliver_act taken j (acts.Atomic port p)) (deliver_act taken j (acts.Atomic port p)).items = subst P m w in
-      let Q : Act → Type 0 = λ a. after ≡ delivered_twice (with_first (Sent j a) taken) in
-      let R : List Item → Type 0 = λ is. after ≡ delivered_twice (record { sys = s; items = is; entries = es }) in
-      subst R (sym alone) (subst Q (sym f) told)
+  packet_delivered last t = record {
+    count = suc t.count;
+    enough = omega arith;
+    delivered = t.delivered ∙ ap (λ x. deliver t.count x) passed_first;
+  }
 
 -- what an event noted can be counted
-pub record IsCountable (v : Delivery) : Type 0 where
-  pub counts : IsCountedUpTo (2 ^ 60) v.sys.counts
-  pub events : v.sys.counts.events < 2 ^ 60
-  pub few : length v.entries ≤ 64
-
 pub countable : (s : Sys) (e : Due) (table : List Slot) (d w v : Delivery) → MayServe s e table → d ≡ not_begun s
     → w ≡ deliver_wake d e.owner.0 (wakes.Event e.slot) → v ≡ deliver 256 w → IsCountable v
 countable s e table d w v h idle begun delivered =
     let first : w ≡ event_begun s e = begun ∙ ap (λ x. deliver_wake x e.owner.0 (wakes.Event e.slot)) idle in
     let all : v ≡ deliver 256 (event_begun s e) = delivered ∙ ap (λ x. deliver 256 x) first in
-    let sound = deliver_sound 256 (event_begun s e) table h.under_way.sound in
-    let same = deliver_counts 256 (event_begun s e) in
     let Q : Delivery → Type 0 = IsCountable in
-    subst Q (sym all) (record {
-      counts = counted_up_to (10 * (deliver 256 (event_begun s e)).sys.counts.events) 1152921504606846976 (deliver 256 (event_begun s e)).sys.counts
-          (omega (arith, ap (λ c. c.events) same, h.under_way.events)) sound.counts;
-      events = omega (arith, ap (λ c. c.events) same, h.under_way.events);
-      few = omega (arith, sound.noted);
-    })
+    subst Q (sym all) (under_way_countable (deliver 256 (event_begun s e)) table (more_under_way 256 (event_begun s e) table h.under_way))

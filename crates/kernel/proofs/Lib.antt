@@ -1,8 +1,10 @@
 pub mod Parts
 pub mod EntryLemmas
-pub mod Allowed
+pub mod Deliveries
+pub mod UnderWay
 pub mod Delivered
 pub mod Changes
 pub mod Runs
 pub mod Picks
 pub mod Loads
+pub mod SettledLemmas

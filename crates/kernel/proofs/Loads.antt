@@ -23,7 +23,10 @@ use Rattle.gm_model.proofs.ReplaySteps.{atomic}
 use Rattle.gm_model.proofs.Started.{put_size}
 use Rattle.rv_step.specs.Arch.{reset}
 use Rattle.rv_step.specs.FlatMem.{ram_base, ram_put}
+use Rattle.gm_model.specs.Drained.{IsDrained}
+use Rattle.kernel.proofs.SettledLemmas.{start_settled}
 use Rattle.kernel.specs.Load.{IsAsBuilt, entered}
+use Rattle.kernel.specs.Settled.{IsSettled}
 
 -- bytes that are put into RAM leave its size
 pub raw_size : (s : Sys) (table : List Slot) (address : ℕ) (bytes : List ℕ) → IsSound s table → address - ram_base + length bytes ≤ length (own_ram s.objects)
@@ -188,3 +191,16 @@ entered_kept s s' table table' entry h e t =
     let P : Sys → Type 0 = λ x. IsSound x table' in
     let Q : List Slot → Type 0 = λ x. IsSound (entered entry s) x in
     subst P (sym e) (subst Q (sym t) (entered_sound s table entry h))
+
+-- a machine that is being loaded is drained
+pub loading_drained : (s0 s : Sys) (pieces : List Piece) (i : ℕ) → ArePut s0 pieces i s → (c : Config) × IsAsBuilt c s0 × All (LiesInRam c.system_ram) pieces → IsDrained s
+loading_drained s0 s pieces i before f =
+    let P : Sys → Type 0 = IsDrained in
+    subst P (sym (before f.0 f.1 f.2)) (start_settled f.0 ram_base (fold with_piece (replicate f.0.system_ram 0) (take i pieces)) f.1.mode).drained
+
+-- and once it is loaded it is settled
+pub loaded_settled : (s0 s : Sys) (image : Image) → ((c : Config) → IsAsBuilt c s0 → All (LiesInRam c.system_ram) image.pieces → s ≡ start_state c image.entry (ram_of image c.system_ram))
+    → (c : Config) × IsAsBuilt c s0 × All (LiesInRam c.system_ram) image.pieces → IsSettled s
+loaded_settled s0 s image loaded f =
+    let P : Sys → Type 0 = IsSettled in
+    subst P (sym (loaded f.0 f.1 f.2)) (start_settled f.0 image.entry (ram_of image f.0.system_ram) f.1.mode)

@@ -1,17 +1,16 @@
 -- A list of boxed parts, of which one is woken or is passed a packet.
-use Rattle.std.proofs.Common.{arith, ◌≡◌, ℕ, suc, ◌+◌, ◌<◌, ◌≤◌, ◌++◌, add-one, Bool, true, false, cond, List, [], ◌∷◌, length, drop, map, get_or, set, refl, sym, ◌∙◌, ap, subst, Option, Some, is_some}
+use Rattle.std.proofs.Common.{arith, ◌≡◌, ℕ, suc, ◌+◌, ◌<◌, ◌≤◌, add-one, Bool, true, false, cond, List, [], ◌∷◌, length, drop, map, get_or, set, refl, sym, ◌∙◌, ap, subst, Option, Some, is_some}
 use Rattle.std.proofs.Math.Seq.{drop-cons}
-use Rattle.std.proofs.lemmas.List.{append-nil, get_or-map, length-map, map-set}
+use Rattle.std.proofs.lemmas.List.{get_or-map, length-map, map-set}
 use Rattle.ev_queue.specs.Queue.{Queue}
 use Rattle.gm_model.specs.Counts.{Counts}
 use Rattle.gm_model.specs.Router.{Router}
-use Rattle.gm_model.specs.ObjState.{ObjState, Blank, AtomicCpu, Server}
+use Rattle.gm_model.specs.ObjState.{ObjState, Blank}
 use Rattle.gm_model.specs.ObjectStep.{object_step, atomic_step}
 use Rattle.gm_model.specs.Command.{arch_of}
 use Rattle.gm_model.specs.Sound.{latency_of}
-use Rattle.gm_model.specs.Sys.{Sys, active_from, active_cpu, object_at, passed, pass_at}
-use Rattle.gm_model.specs.Deliver.{Done, Delivery, deliver_wake, deliver_atomic, sent_by, way_latency}
-use Rattle.gm_model.specs.declared.entry.Entry.{Entry}
+use Rattle.gm_model.specs.Sys.{Sys, active_from, active_cpu, pass_at}
+use Rattle.gm_model.specs.Deliver.{Delivery, deliver_wake, deliver_atomic, way_latency}
 use Rattle.gm_model.specs.declared.kind.Kind.TheVariants as kinds
 use Rattle.gm_model.specs.declared.packet.Packet.{Packet}
 use Rattle.gm_model.specs.declared.wake.Wake.{Wake}
@@ -20,7 +19,7 @@ use Rattle.gm_model.proofs.SoundParts.{latency-way}
 use Rattle.obj_core.specs.Events.{with_changes}
 use Rattle.obj_core.specs.Out.{Out, extended}
 use Rattle.rv_step.specs.declared.arch.Arch.{Arch}
-use Rattle.kernel.specs.Ready.{passed_to}
+use Rattle.kernel.specs.Ready.{passed_to, answered}
 
 module _ {X : Type 0} (f : X → ObjState) (xs : List X) (i : ℕ) (b : X) (here : i < length xs) (is : b ≡ get_or xs i b)
     (tick rebased : ℕ) (counts : Counts) (draining : Bool) (router : Router) where
@@ -42,26 +41,27 @@ module _ {X : Type 0} (f : X → ObjState) (xs : List X) (i : ℕ) (b : X) (here
     router = router;
   }
 
-  -- the part was woken
-  pub woken_shown : (w : Wake) (before after : Out) (q q' : Queue) (b' : X)
-      → f b' ≡ (object_step (f b) before.next w tick).state
-      → q' ≡ with_changes q (f b) (object_step (f b) before.next w tick).changes
-      → after ≡ extended before (object_step (f b) before.next w tick).acts (object_step (f b) before.next w tick).entries (object_step (f b) before.next w tick).next
-      → before.acts ≡ []
-      → (let d : Delivery = record { sys = sys_with (set xs i b') q' after.next; items = sent_by i after.acts; entries = after.entries } in d)
-      ≡ deliver_wake (record { sys = sys_with xs q before.next; items = []; entries = before.entries }) i w
-  woken_shown w before after q q' b' s e o quiet =
-      rw (map-set f xs i b', shown_at, s, e, o, quiet) refl
+  -- the part was woken: it is the sender of what it asks for
+  pub woken_shown : (w : Wake) (before called after : Out) (q q' : Queue) (b' : X)
+      → called ≡ record before { sender = i }
+      → f b' ≡ (object_step (f b) called.next w tick).state
+      → q' ≡ with_changes q (f b) (object_step (f b) called.next w tick).changes
+      → after ≡ extended called (object_step (f b) called.next w tick).acts (object_step (f b) called.next w tick).entries (object_step (f b) called.next w tick).next
+      → (let d : Delivery = record { sys = sys_with (set xs i b') q' after.next; items = after.items; entries = after.entries } in d)
+      ≡ deliver_wake (record { sys = sys_with xs q before.next; items = before.items; entries = before.entries }) i w
+  woken_shown w before called after q q' b' c s e o =
+      rw (map-set f xs i b', shown_at, s, e, o, c) refl
 
   -- a packet was passed to the part
-  pub passed_shown : (p : Packet) (before after : Out) (q q' : Queue) (b' : X)
+  pub passed_shown : (p : Packet) (before called after : Out) (q q' : Queue) (b' : X)
+      → called ≡ record before { sender = i }
       → f b' ≡ (atomic_step (f b) p tick).state
       → q' ≡ with_changes q (f b) (atomic_step (f b) p tick).changes
-      → after ≡ extended before (atomic_step (f b) p tick).acts (atomic_step (f b) p tick).entries before.next
-      → (let d : Delivery = record { sys = sys_with (set xs i b') q' after.next; items = []; entries = after.entries } in d)
-      ≡ passed_to (record { sys = sys_with xs q before.next; items = []; entries = before.entries }) i p
-  passed_shown p before after q q' b' s e o =
-      rw (map-set f xs i b', shown_at, s, e, o) refl
+      → after ≡ extended called (atomic_step (f b) p tick).acts (atomic_step (f b) p tick).entries called.next
+      → (let d : Delivery = record { sys = sys_with (set xs i b') q' after.next; items = after.items; entries = after.entries } in d)
+      ≡ passed_to (record { sys = sys_with xs q before.next; items = before.items; entries = before.entries }) i p
+  passed_shown p before called after q q' b' c s e o =
+      rw (map-set f xs i b', shown_at, s, e, o, c) refl
 
 -- the active CPU is the part at a place, or stands behind it
 module _ {X : Type 0} (f : X → ObjState) (xs : List X) (i : ℕ) (b : X) (r : Option Arch) (t : Bool) (here : i < length xs) (is : b ≡ get_or xs i b)
@@ -86,17 +86,6 @@ module _ {X : Type 0} (f : X → ObjState) (xs : List X) (i : ℕ) (b : X) (r : 
     behind true k m = cc
     behind false k m = m
 
--- a packet that is passed on asks for nothing
-none_passed : (s : ObjState) (p : Packet) (now : ℕ) → (atomic_step s p now).acts ≡ []
-unfolding atomic_step
-none_passed (Blank k) p now = refl
-none_passed (AtomicCpu s) p now = refl
-none_passed (Server s) p now = refl
-
-pub still_quiet : (s : ObjState) (before after : Out) (p : Packet) (now : ℕ)
-    → after ≡ extended before (atomic_step s p now).acts (atomic_step s p now).entries before.next → after.acts ≡ before.acts
-still_quiet s before after p now e = ap (λ o. o.acts) e ∙ (ap (λ acts. before.acts ++ acts) (none_passed s p now) ∙ append-nil before.acts)
-
 -- a part takes no longer than a latency may be
 pub quick_passed : {X : Type 0} (f : X → ObjState) (xs : List X) (i : ℕ) (b : X) (p : Packet) (now r : ℕ) (way : Way) → i < length xs → b ≡ get_or xs i b
     → r ≡ way_latency way → way ≡ (atomic_step (f b) p now).way → latency_of (get_or (map f xs) i (Blank kinds.AtomicCpu)) ≤ 1000000 → r ≤ 1000000
@@ -105,12 +94,7 @@ quick_passed f xs i b p now r way here is e w l =
     omega (arith, e, ap way_latency w, latency-way (f b) p now, ap latency_of same, l)
 
 -- a packet was passed to the object k, and its sender is to be told
-pub passed_answered : (s s' : Sys) (es es' : List Entry) (k : ℕ) (o : Option ℕ) (p q : Packet) (way latency sender : ℕ)
-    → (let d : Delivery = record { sys = s'; items = []; entries = es' } in d) ≡ passed_to (record { sys = s; items = []; entries = es }) k p
-    → q ≡ (pass_at s k p).packet → latency ≡ way_latency (pass_at s k p).way → way ≡ s.router.latency → Some k ≡ o
-    → (let d : Delivery = record { sys = s'; items = Done sender q (way + latency) ∷ []; entries = es' } in d)
-    ≡ deliver_atomic (record { sys = s; items = []; entries = es }) sender p o
-passed_answered s s' es es' k o p q way latency sender e f l w r =
-    let a : s' ≡ passed s k p = ap (λ d. d.sys) e in
-    let b : es' ≡ es ++ (pass_at s k p).entries = ap (λ d. d.entries) e in
-    rw (← r, a, b, f, l, w, none_passed (object_at s k) p s.tick) refl
+pub passed_answered : (d e : Delivery) (k : ℕ) (o : Option ℕ) (p q : Packet) (way latency sender : ℕ) → e ≡ passed_to d k p
+    → q ≡ (pass_at d.sys k p).packet → latency ≡ way_latency (pass_at d.sys k p).way → way ≡ d.sys.router.latency → Some k ≡ o
+    → answered e sender q (way + latency) ≡ deliver_atomic d sender p o
+passed_answered d e k o p q way latency sender h f l w r = rw (← r, h, f, l, w) refl

@@ -13,21 +13,20 @@ use Rattle.gm_model.specs.Sys.{Sys}
 use Rattle.gm_model.specs.Deliver.{Delivery}
 use Rattle.gm_model.specs.Fire.{Ran, fire, fire_first, fire_due, fire_event, timed_run, taken_out, without_nth, event_begun, event_delivered, counted}
 use Rattle.gm_model.specs.Run.{RunEnd, EndsRun, run_to, reason_at, reason_for, exit_reason, due_reason, late_reason, has_retired, is_late, exit_of, retired_in, console_of, last_tick}
-use Rattle.gm_model.specs.AtomicMachine.{IsAtomicMachine, IsRunReplayed}
+use Rattle.gm_model.specs.AtomicMachine.{IsRunReplayed}
 use Rattle.gm_model.specs.Sound.{IsSound}
 use Rattle.gm_model.specs.declared.entry.Entry.{Entry}
 use Rattle.gm_model.specs.declared.entry.Entry.TheVariants as entries
 use Rattle.gm_model.specs.declared.goal.Goal.{Goal}
 use Rattle.gm_model.specs.declared.goal.Reason.{Reason}
 use Rattle.gm_model.specs.declared.goal.Reason.TheVariants as reasons
-use Rattle.gm_model.proofs.ConsoleBytes.{console-append, fire_bytes}
-use Rattle.gm_model.proofs.ReplayRuns.{runs_replayed}
+use Rattle.gm_model.proofs.ConsoleBytes.{console-append}
 use Rattle.gm_model.proofs.RunEnds.{runs_end, run_is, budget_ends}
-use Rattle.gm_model.proofs.SoundEvents.{fire_sound, same_events}
-use Rattle.kernel.specs.Ends.{StopsWithin, TellsEnd}
+use Rattle.gm_model.proofs.SoundEvents.{same_events}
+use Rattle.kernel.specs.Ends.{StopsAtByte, TellsEnd, last_noted}
 use Rattle.kernel.specs.Ready.{MayServe, HasEventsLeft, at_tick, without_first}
-use Rattle.kernel.proofs.Allowed.{may_serve}
-use Rattle.kernel.proofs.Delivered.{deliver_counts}
+use Rattle.kernel.proofs.Deliveries.{deliver_counts}
+use Rattle.kernel.proofs.UnderWay.{may_serve, served_sound, one_byte_most, run_replayed}
 
 first_taken : (es : List Due) → rest es ≡ without_nth es 0
 first_taken [] = refl
@@ -58,7 +57,7 @@ module _ (s b : Sys) (e : Due) (table : List Slot) (h : IsSound s table) (events
 
   pub byte_few : (es : List Entry) → es ≡ (event_delivered (at_tick e.tick b) e).entries → length (console_of es) ≤ 1
   byte_few es t =
-      let few = fire_bytes s 0 e.tick h.machine in
+      let few = one_byte_most s table 0 e.tick h in
       let same : es ≡ (fire s 0 e.tick).entries = t ∙ ap (λ r. r.entries) (sym fired_is ∙ fired_once) in
       rw same few
 
@@ -69,17 +68,17 @@ module _ (s b : Sys) (e : Due) (table : List Slot) (h : IsSound s table) (events
   fired_entries es t = t ∙ ap (λ r. r.entries) (sym fired_is)
 
   pub fired_sound : (s' : Sys) (table' : List Slot) → s' ≡ (counted (event_delivered (at_tick e.tick b) e)).sys → table' ≡ table → IsSound s' table'
-  fired_sound s' table' t u = rw (fired_sys s' t, fired_once, u) (fire_sound s table 0 e.tick h l)
+  fired_sound s' table' t u = rw (fired_sys s' t, fired_once, u) (served_sound s table 0 e.tick h l)
 
 -- the first event is replayed, if there is one
-pub first_replayed : (s : Sys) → IsAtomicMachine s [] → IsRunReplayed s (fire_first s)
+pub first_replayed : (s : Sys) (table : List Slot) → IsSound s table → IsRunReplayed s (fire_first s)
 unfolding timed_run
-first_replayed s h = let r = runs_replayed.run s 1 h in record { machine = r.machine; replays = r.replays }
+first_replayed s table h = let r = run_replayed s table 1 h in record { machine = r.machine; replays = r.replays }
 
-pub run_to_replayed : (s : Sys) (g : Goal) → IsAtomicMachine s [] → IsRunReplayed s (run_to s g).ran
-run_to_replayed s g h =
+pub run_to_replayed : (s : Sys) (table : List Slot) (g : Goal) → IsSound s table → IsRunReplayed s (run_to s g).ran
+run_to_replayed s table g h =
     let e = runs_end.run s g in
-    let P : Ran → Type 0 = λ r. IsRunReplayed s r in subst P (sym e.ran) (runs_replayed.run s (run_to s g).events h)
+    let P : Ran → Type 0 = λ r. IsRunReplayed s r in subst P (sym e.ran) (run_replayed s table (run_to s g).events h)
 
 -- the first event isn't too late
 pub first_early : (es : List Due) (e : Due) → first es ≡ Some e → IfSome (first es) (λ d. d.tick ≤ 4611703610613432320) → e.tick ≤ 4611703610613432320
@@ -137,6 +136,10 @@ module _ (start s : Sys) (n : ℕ) (here : s ≡ (timed_run start n).sys) where
   pub wrote_front : (a b c : Option (List ℕ)) → Told (Appends (console_of (timed_run start n).entries)) a b → Told (AppendsFront (console_of (fire_first s).entries)) b c
       → Told (AppendsFront (console_of (timed_run start (suc n)).entries)) a c
   wrote_front a b c h k = rw console_more (told_appends_front (console_of (timed_run start n).entries) (console_of (fire_first s).entries) a b c h k)
+
+  -- what it noted is what the last event did
+  pub noted_more : (es before : List Entry) → es ≡ (fire_first s).entries → es ≡ last_noted start before (n + 1)
+  noted_more es before e = rw add-one (e ∙ ap (λ x. (fire_first x).entries) here)
 
   pub reason_is : (g : Goal) (insts : ℕ) (o : Option Reason) → insts ≡ retired_in (timed_run start n).entries → o ≡ reason_for g n insts s → reason_at g n (timed_run start n) ≡ o
   reason_is g insts o i e = sym (rw (sym here, sym i) e)
@@ -244,20 +247,33 @@ module _ (start : Sys) (g : Goal) (n : ℕ) (why : Reason) (h : reason_at g n (t
   pub ends_sys : (s : Sys) → s ≡ (timed_run start n).sys → s ≡ (run_to start g).ran.sys
   ends_sys s e = rw ends_here e
 
+  pub ends_noted : (es before : List Entry) → es ≡ last_noted start before n → es ≡ last_noted start before (run_to start g).events
+  ends_noted es before e = rw ends_here e
+
   pub ends_bytes : (a b : Option (List ℕ)) → Told (Appends (console_of (timed_run start n).entries)) a b → Told (Appends (console_of (run_to start g).ran.entries)) a b
   ends_bytes a b t = rw ends_here t
 
 -- where the console failed
-pub stops_within : (start : Sys) (g : Goal) (n : ℕ) (s s' : Sys) (a b c : Option (List ℕ)) → s ≡ (timed_run start n).sys
+pub stops_at_byte : (start : Sys) (g : Goal) (n : ℕ) (s s' : Sys) (es : List Entry) (a b c : Option (List ℕ)) → s ≡ (timed_run start n).sys
     → ((k : ℕ) → k < n → reason_at g k (timed_run start k) ≡ None) → reason_at g n (timed_run start n) ≡ None
-    → s' ≡ (fire_first s).sys → Told (Appends (console_of (timed_run start n).entries)) a b → Told (AppendsFront (console_of (fire_first s).entries)) b c
-    → StopsWithin start g s' a c
-stops_within start g n s s' a b c here below at e h k = record {
+    → s' ≡ (fire_first s).sys → es ≡ (fire_first s).entries → length (console_of (fire_first s).entries) ≡ 1
+    → Told (Appends (console_of (timed_run start n).entries)) a b → Told (AppendsFront (console_of (fire_first s).entries)) b c
+    → StopsAtByte start g s' es a c
+stops_at_byte start g n s s' es a b c here below at e f l h k = record {
   before = n;
   within = run_longer g start n (none_before g start n below at);
   sys = (let P : ℕ → Type 0 = λ m. s' ≡ (timed_run start m).sys in subst P (omega arith) (run_more start s n here s' e));
-  console = wrote_front start s n here a b c h k;
+  entries = f ∙ ap (λ x. (fire_first x).entries) here;
+  byte = ap (λ x. length (console_of (fire_first x).entries)) (sym here) ∙ l;
+  taken = b;
+  took = h;
+  refused = (let P : Sys → Type 0 = λ x. Told (AppendsFront (console_of (fire_first x).entries)) b c in subst P here k);
 }
+
+-- and what it has is a front of the bytes up to the one that it refused
+pub stopped_bytes : (start : Sys) (g : Goal) (s : Sys) (es : List Entry) (a c : Option (List ℕ)) (h : StopsAtByte start g s es a c)
+    → Told (AppendsFront (console_of (timed_run start (suc h.before)).entries)) a c
+stopped_bytes start g s es a c h = wrote_front start (timed_run start h.before).sys h.before refl a h.taken c h.took h.refused
 
 -- a run that goes on serves an event
 module _ (s : Sys) (table : List Slot) (h : IsSound s table) (g : Goal) (n insts : ℕ) (none : ◌≡◌ {A = Option Reason} None (reason_for g n insts s)) where

@@ -1,11 +1,12 @@
 -- How a run ends, and where a sink's fault leaves it. This project's own rule.
-use Rattle.std.specs.Prelude.{◌≡◌, ℕ, suc, ◌<◌, List, Option}
+use Rattle.std.specs.Prelude.{◌≡◌, ℕ, zero, suc, ◌<◌, List, length, Option}
 use Rattle.gc_outside.specs.Faults.{Rose}
 use Rattle.gc_outside.specs.Told.{Told}
-use Rattle.gc_outside.specs.Sink.{AppendsFront}
-use Rattle.gm_model.specs.Fire.{timed_run}
+use Rattle.gc_outside.specs.Sink.{Appends, AppendsFront}
+use Rattle.gm_model.specs.Fire.{timed_run, fire_first}
 use Rattle.gm_model.specs.Run.{RunEnd, run_to, retired_in, console_of}
 use Rattle.gm_model.specs.Sys.{Sys}
+use Rattle.gm_model.specs.declared.entry.Entry.{Entry}
 use Rattle.gm_model.specs.declared.goal.Goal.{Goal}
 use Rattle.kernel.specs.declared.run_end.RunEnd.{RunEnd as ToldEnd}
 use Rattle.kernel.specs.declared.run_end.RunFault.{RunFault}
@@ -17,12 +18,22 @@ pub record TellsEnd (told : ToldEnd) (r : RunEnd) : Type 0 where
   pub insts : told.insts ≡ retired_in r.ran.entries
   pub events : told.events ≡ r.events
 
--- the machine s stands after a whole event of the run from `start`, the one whose byte was refused
-pub record StopsWithin (start : Sys) (g : Goal) (s : Sys) (old new : Option (List ℕ)) : Type 0 where
+-- what the last of n events of a run noted; `before` if there was none
+abbrev pub last_noted : Sys → List Entry → ℕ → List Entry
+last_noted start before zero = before
+last_noted start before (suc n) = (fire_first (timed_run start n).sys).entries
+
+-- the run from `start` stops after a whole event, one of those that it serves: the console took all bytes of the events
+-- before it, it brought one byte, and that was refused
+pub record StopsAtByte (start : Sys) (g : Goal) (s : Sys) (noted : List Entry) (old new : Option (List ℕ)) : Type 0 where
   pub before : ℕ
   pub within : before < (run_to start g).events
   pub sys : s ≡ (timed_run start (suc before)).sys
-  pub console : Told (AppendsFront (console_of (timed_run start (suc before)).entries)) old new
+  pub entries : noted ≡ (fire_first (timed_run start before).sys).entries
+  pub byte : length (console_of (fire_first (timed_run start before).sys).entries) ≡ 1
+  pub taken : Option (List ℕ)
+  pub took : Told (Appends (console_of (timed_run start before).entries)) old taken
+  pub refused : Told (AppendsFront (console_of (fire_first (timed_run start before).sys).entries)) taken new
 
 -- the sink that a fault names has failed
 abbrev pub IsFaultOf : RunFault → (console_before console_now report_before report_now : ℕ) → Type 0

@@ -4,6 +4,7 @@ pub mod Build
 pub mod Ready
 pub mod Ends
 pub mod Load
+pub mod Settled
 pub use Rattle.ev_queue.specs.PendingList
 pub use Rattle.ev_queue.specs.Queue
 pub use Rattle.ev_queue.specs.SlotTable
@@ -12,6 +13,7 @@ pub use Rattle.gm_model.specs.AtomicMachine
 pub use Rattle.gm_model.specs.Command
 pub use Rattle.gm_model.specs.Counts
 pub use Rattle.gm_model.specs.Deliver
+pub use Rattle.gm_model.specs.Drained
 pub use Rattle.gm_model.specs.Fire
 pub use Rattle.gm_model.specs.ObjState
 pub use Rattle.gm_model.specs.ObjectStep

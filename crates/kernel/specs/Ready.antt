@@ -1,12 +1,13 @@
--- What one wake, or one packet that is passed on, needs in the middle of an event.
-use Rattle.std.specs.Prelude.{ℕ, ◌+◌, ◌^◌, ◌<◌, ◌≤◌, List, [], ◌∷◌, ◌++◌, length}
+-- What one wake, or one packet that is passed on, needs in the middle of an event, and what an event's items need.
+use Rattle.std.specs.Prelude.{◌≡◌, ℕ, ◌+◌, ◌*◌, ◌^◌, ◌<◌, ◌≤◌, List, [], ◌∷◌, ◌++◌, length, IfSome}
 use Rattle.gc_base.specs.declared.limits.TheConstants.{LATENCY_MAX, TOP}
 use Rattle.ev_queue.specs.declared.slot.Slot.{Slot}
 use Rattle.gm_model.specs.Allowed.{MayWake, MayPass}
-use Rattle.gm_model.specs.Deliver.{Item, Delivery, deliver_first}
+use Rattle.gm_model.specs.Deliver.{Done, Delivery, deliver, sent_by}
 use Rattle.ev_queue.specs.PendingList.{rest}
 use Rattle.ev_queue.specs.declared.due.Due.{Due}
 use Rattle.gm_model.specs.Fire.{event_begun}
+use Rattle.gm_model.specs.Router.{destination}
 use Rattle.gm_model.specs.Sound.{latency_of, IsSoundWithin}
 use Rattle.gm_model.specs.Sys.{Sys, object_at, passed, pass_at}
 use Rattle.gm_model.specs.declared.packet.Packet.{Packet}
@@ -14,13 +15,13 @@ use Rattle.gm_model.specs.declared.wake.Wake.{Wake}
 use Rattle.gm_model.specs.declared.wake.Wake.TheVariants as wakes
 use Rattle.obj_core.specs.Handles.{HasHandles}
 
--- the object i is there with its handles, and there is room for what it asks for and notes
+-- the object i is there with its handles, and there is room for what it notes and numbers for what it asks for
 pub record IsReady (d : Delivery) (table : List Slot) (i : ℕ) : Type 0 where
   pub there : i < length d.sys.objects
   pub handles : HasHandles table (object_at d.sys i)
   pub tick : d.sys.tick ≤ TOP
   pub numbers : d.sys.next + 16 < 2 ^ 64
-  pub entries : length d.entries + 16 ≤ 64
+  pub entries : length d.entries + 16 ≤ 528
 
 -- and the wake may come to it
 pub record IsReadyForWake (d : Delivery) (table : List Slot) (i : ℕ) (w : Wake) : Type 0 where
@@ -33,19 +34,34 @@ pub record IsReadyForPacket (d : Delivery) (table : List Slot) (i : ℕ) (p : Pa
   pub packet : MayPass (object_at d.sys i) p
   pub latency : latency_of (object_at d.sys i) ≤ LATENCY_MAX
 
--- the same with this item in front of the others
-abbrev pub with_first : Item → Delivery → Delivery
-with_first i d = record d { items = i ∷ d.items }
+-- a packet may be passed on: it is short, its way takes no longer than it may, and the server of its range, if there is
+-- one, is ready for it
+pub record MayGoOn (d : Delivery) (table : List Slot) (p : Packet) : Type 0 where
+  pub size : p.size ≤ 64
+  pub way : d.sys.router.latency ≤ 2 * LATENCY_MAX
+  pub server : IfSome (destination d.sys.router.routes p.addr) (λ k. IsReadyForPacket d table k p)
 
--- a packet was passed to the object i, which asks for nothing, and its sender isn't told yet
+-- there is room for what one call asks for
+abbrev pub HasItemRoom : Delivery → Type 0
+HasItemRoom d = length d.items + 16 ≤ 272
+
+-- a packet was passed to the object i, and its sender isn't told yet
 abbrev pub passed_to : Delivery → ℕ → Packet → Delivery
-passed_to d i p = record d { sys = passed d.sys i p; entries = d.entries ++ (pass_at d.sys i p).entries }
+passed_to d i p = record {
+  sys = passed d.sys i p;
+  items = d.items ++ sent_by i (pass_at d.sys i p).acts;
+  entries = d.entries ++ (pass_at d.sys i p).entries;
+}
 
--- the first item is delivered, and then the first of those that are left then, if one is
-abbrev pub delivered_twice : Delivery → Delivery
-delivered_twice d = next (next d) where
-  next : Delivery → Delivery
-  next e = deliver_first e e.items
+-- the sender i is to be told of the packet that it passed on, after all that is to be delivered already
+abbrev pub answered : Delivery → ℕ → Packet → ℕ → Delivery
+answered d i p latency = record d { items = d.items ++ Done i p latency ∷ [] }
+
+-- e is what some items of d lead to that were delivered in order, at least so many of them
+pub record Delivers (least : ℕ) (d e : Delivery) : Type 0 where
+  pub count : ℕ
+  pub enough : least ≤ count
+  pub delivered : e ≡ deliver count d
 
 -- so few events were served since the counters began that no number of theirs runs out
 abbrev pub HasEventsLeft : Sys → Type 0

@@ -2,7 +2,7 @@
 use Rattle.std.specs.Prelude.{ℕ, false, List, map}
 use Rattle.std.specs.declared.alloc.Global.{Global}
 use Rattle.std.specs.declared.dyn_box.DynBox.{DynBox}
-use Rattle.gm_model.specs.Deliver.{Item, Delivery, sent_by}
+use Rattle.gm_model.specs.Deliver.{Delivery}
 use Rattle.gm_model.specs.ObjState.{ObjState}
 use Rattle.gm_model.specs.Sound.{IsSound}
 use Rattle.gm_model.specs.Sys.{Sys}
@@ -23,13 +23,9 @@ sys_of f m = record {
   router = m.router;
 }
 
--- the machine in the middle of an event, with these items still to be delivered
-abbrev pub delivery_of : {I : Type 0} {D : I → Type 0} → (DynBox I Global D → ObjState) → Machine I D → List Item → Delivery
-delivery_of f m items = record { sys = sys_of f m; items = items; entries = m.out.entries }
-
--- the same, where these are the acts of the object i that are left in the outbox
-abbrev pub flight_of : {I : Type 0} {D : I → Type 0} → (DynBox I Global D → ObjState) → Machine I D → ℕ → Delivery
-flight_of f m i = delivery_of f m (sent_by i m.out.acts)
+-- the machine in the middle of an event: what is still to be delivered, and what was noted, is in the outbox
+abbrev pub delivery_of : {I : Type 0} {D : I → Type 0} → (DynBox I Global D → ObjState) → Machine I D → Delivery
+delivery_of f m = record { sys = sys_of f m; items = m.out.items; entries = m.out.entries }
 
 -- what the last event noted
 abbrev pub entries_of : {I : Type 0} {D : I → Type 0} → Machine I D → List Entry

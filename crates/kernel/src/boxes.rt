@@ -74,7 +74,6 @@ pub(crate) fn pass_box(
     ensures out { out.new ≡ extended out.old (atomic_step (state part.old) p.old now).acts
         (atomic_step (state part.old) p.old now).entries out.old.next }
     ensures way { result ≡ (atomic_step (state part.old) p.old now).way }
-    ensures quiet { out.new.acts ≡ out.old.acts }
 {
     part.atomic(p, now, q, out)
 }

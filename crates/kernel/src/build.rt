@@ -138,6 +138,7 @@ fn sender_part(
 impl Machine {
     ghost use Rattle.gm_model.specs.Platform.{platform};
     ghost use Rattle.gm_model.specs.Sound.{given_table};
+    ghost use Rattle.kernel.specs.Settled.{IsSettled};
     ghost use Rattle.kernel.specs.Shown.{sys_of, IsMachine};
 
     /// Takes the parts that it needs, and configures them. The machine stands at tick 0, drained, with the hart at the
@@ -150,6 +151,7 @@ impl Machine {
         requires blank { AreBlank (map (λ b. state b) bin.items) }
         requires valid { IsValidConfig c.now }
         ensures built { IfOk result (λ m. sys_of state m ≡ start_state c.now ram_base []) }
+        ensures settled { IfOk result (λ m. IsSettled (sys_of state m)) }
         ensures machine { IfOk result (λ m. IsMachine state m) }
         ensures whole { OnOk result (lacking c.now (map (λ b. state b) bin.items) ≡ None) }
         ensures fault { IfErr result (λ e. NamesLack e c.now (map (λ b. state b) bin.items)) }

@@ -1,18 +1,20 @@
-// One act at a time: a packet is passed on and its sender told, or a part is woken.
-ghost use Rattle.std.specs.Prelude.{◌≡◌, ℕ, ◌+◌, ◌*◌, ◌≤◌, ◌<◌, List, [], ◌∷◌, length, Option, Some, None, IfSome, IfNone};
+// One item at a time: a packet is passed on, its sender is told, or a part is woken.
+ghost use Rattle.std.specs.Prelude.{◌≡◌, ℕ, ◌+◌, ◌*◌, ◌≤◌, ◌<◌, List, [], ◌∷◌, length, Option, Some, None, IfSome};
+ghost use Rattle.std.specs.Bool.{OnTrue, OnFalse};
 ghost use Rattle.std.specs.Option.{option_map};
 ghost use Rattle.gc_base.specs.declared.limits.TheConstants.{LATENCY_MAX};
-ghost use Rattle.gm_model.specs.Deliver.{Done, deliver_wake, deliver_atomic, deliver_line, way_latency};
+ghost use Rattle.gm_model.specs.Deliver.{deliver_wake, deliver_atomic, deliver_line, way_latency};
 ghost use Rattle.gm_model.specs.Packet.{fault_response};
 ghost use Rattle.gm_model.specs.Router.{destination};
 ghost use Rattle.gm_model.specs.Sys.{active_cpu, pass_at};
-ghost use Rattle.gm_model.specs.declared.wake.Wake.TheVariants.{Line};
-ghost use Rattle.kernel.specs.Ready.{IsReadyForWake, IsReadyForPacket, IsUnderWay, passed_to, delivered_twice};
+ghost use Rattle.gm_model.specs.declared.wake.Wake.TheVariants.{Line, AtomicDone};
+ghost use Rattle.kernel.specs.Ready.{IsReadyForWake, IsReadyForPacket, MayGoOn, HasItemRoom, IsUnderWay, Delivers, passed_to, answered};
 
 use crate::boxes::{arch_box, pass_box, wake_box};
 use crate::machine::Machine;
 use gc_base::ObjId;
 use gm_model::{Act, Packet, Wake, Way};
+use obj_core::Item;
 
 /// The latency of a way, in ticks.
 fn way_latency(way: Way) -> u64
@@ -34,52 +36,110 @@ fn refuse(packet: &mut Packet)
 }
 
 impl Machine {
-    ghost use Rattle.kernel.specs.Shown.{sys_of, delivery_of, flight_of};
+    ghost use Rattle.kernel.specs.Shown.{sys_of, delivery_of};
 
-    /// Delivers the act that a sender asked for, if it did, and where that is a packet, the response to it: who asked for what
-    /// is left then. In atomic mode no part offers, so no port has a peer.
+    /// Delivers the first item, if one is left. Where that is a packet and nothing else is to be delivered, its sender is
+    /// told at once, which is the next item. In atomic mode no part offers, so no port has a peer.
     #[inline(always)]
-    pub(crate) fn deliver_act(&mut self, sender: ObjId) -> Option<ObjId>
-        requires { IsUnderWay (flight_of state self.old sender.0) self.old.queue.table }
-        ensures delivered { IfSome result (λ i. flight_of state self.new i.0 ≡ delivered_twice (flight_of state self.old sender.0)) }
-        ensures none { IfNone result (self.new ≡ self.old) }
-        ensures landed { IfNone result (self.old.out.acts ≡ []) }
+    pub(crate) fn deliver_item(&mut self) -> bool
+        requires { IsUnderWay (delivery_of state self.old) self.old.queue.table }
+        ensures delivered { OnTrue result (Delivers 1 (delivery_of state self.old) (delivery_of state self.new)) }
+        ensures none { OnFalse result (delivery_of state self.new ≡ delivery_of state self.old) }
+        ensures landed { OnFalse result (self.old.out.items ≡ []) }
         ensures table { self.new.queue.table ≡ self.old.queue.table }
     {
-        match self.out.oldest() {
-            None => None,
-            Some(Act::Atomic { pkt, .. }) => {
+        match self.out.first() {
+            None => false,
+            Some(
+                Item::Sent {
+                    sender,
+                    act: Act::Atomic { pkt, .. },
+                },
+            ) => {
+                let sender = *sender;
                 // The one copy of a packet that is made on its way to the server.
                 let mut packet = *pkt;
-                self.out.clear_acts();
+                self.out.drop_first();
                 let latency = self.pass(&mut packet);
-                let done = Wake::AtomicDone {
-                    pkt: packet,
-                    latency,
-                };
-                self.wake(sender, done);
-                Some(sender)
+                self.answer(sender, packet, latency);
+                true
             }
-            Some(Act::SetLine { bit, level }) => {
+            Some(
+                Item::Sent {
+                    act: Act::SetLine { bit, level },
+                    ..
+                },
+            ) => {
                 let (bit, level) = (*bit, *level);
-                self.out.clear_acts();
-                Some(self.set_line(sender, bit, level))
+                self.out.drop_first();
+                self.set_line(bit, level);
+                true
             }
-            Some(Act::Offer { .. } | Act::CallRetry { .. }) => {
-                self.out.clear_acts();
-                Some(sender)
+            Some(
+                Item::Sent {
+                    act: Act::Offer { .. },
+                    ..
+                },
+            ) => {
+                self.out.drop_first();
+                true
+            }
+            Some(
+                Item::Sent {
+                    act: Act::CallRetry { .. },
+                    ..
+                },
+            ) => {
+                self.out.drop_first();
+                true
+            }
+            Some(
+                Item::Done {
+                    sender,
+                    pkt,
+                    latency,
+                },
+            ) => {
+                let sender = *sender;
+                let done = Wake::AtomicDone {
+                    pkt: *pkt,
+                    latency: *latency,
+                };
+                self.out.drop_first();
+                self.wake(sender, done);
+                true
             }
         }
     }
 
-    /// Wakes a part. What it asks for stays in the outbox.
+    /// Tells a sender of the packet that it passed on: at once, if nothing else is to be delivered, and else after that.
     #[inline(always)]
-    pub(crate) fn wake(&mut self, i: ObjId, w: Wake)
-        requires quiet { self.old.out.acts ≡ [] }
-        requires ready { IsReadyForWake (delivery_of state self.old []) self.old.queue.table i.0 w }
-        ensures delivered { flight_of state self.new i.0 ≡ deliver_wake (delivery_of state self.old []) i.0 w }
+    fn answer(&mut self, sender: ObjId, packet: Packet, latency: u64)
+        requires room { HasItemRoom (delivery_of state self.old) }
+        requires ready { self.old.out.items ≡ [] → IsReadyForWake (delivery_of state self.old) self.old.queue.table sender.0 (AtomicDone packet latency) }
+        ensures told { Delivers 0 (answered (delivery_of state self.old) sender.0 packet latency) (delivery_of state self.new) }
         ensures table { self.new.queue.table ≡ self.old.queue.table }
     {
+        if self.out.is_empty() {
+            let done = Wake::AtomicDone {
+                pkt: packet,
+                latency,
+            };
+            self.wake(sender, done);
+        } else {
+            self.out.push_done(sender, packet, latency);
+        }
+    }
+
+    /// Wakes a part.
+    #[inline(always)]
+    pub(crate) fn wake(&mut self, i: ObjId, w: Wake)
+        requires room { HasItemRoom (delivery_of state self.old) }
+        requires ready { IsReadyForWake (delivery_of state self.old) self.old.queue.table i.0 w }
+        ensures delivered { delivery_of state self.new ≡ deliver_wake (delivery_of state self.old) i.0 w }
+        ensures table { self.new.queue.table ≡ self.old.queue.table }
+    {
+        self.out.for_sender(i);
         wake_box(
             &mut self.parts[i.0 as usize],
             w,
@@ -89,20 +149,16 @@ impl Machine {
         );
     }
 
-    /// Gives the active CPU an interrupt line's level: who is woken, or else the sender.
-    fn set_line(&mut self, sender: ObjId, bit: u8, level: bool) -> ObjId
-        requires quiet { self.old.out.acts ≡ [] }
+    /// Gives the active CPU, if there is one, an interrupt line's level.
+    fn set_line(&mut self, bit: u8, level: bool)
+        requires room { HasItemRoom (delivery_of state self.old) }
         requires few { length (sys_of state self.old).objects ≤ 256 }
-        requires ready { IfSome (active_cpu (sys_of state self.old).objects) (λ i. IsReadyForWake (delivery_of state self.old []) self.old.queue.table i (Line bit level)) }
-        ensures delivered { flight_of state self.new result.0 ≡ deliver_line (delivery_of state self.old []) 0 (Line bit level) (active_cpu (sys_of state self.old).objects) }
+        requires ready { IfSome (active_cpu (sys_of state self.old).objects) (λ i. IsReadyForWake (delivery_of state self.old) self.old.queue.table i (Line bit level)) }
+        ensures delivered { (sender : ℕ) → delivery_of state self.new ≡ deliver_line (delivery_of state self.old) sender (Line bit level) (active_cpu (sys_of state self.old).objects) }
         ensures table { self.new.queue.table ≡ self.old.queue.table }
     {
-        match self.active_cpu() {
-            Some(cpu) => {
-                self.wake(cpu, Wake::Line { bit, level });
-                cpu
-            }
-            None => sender,
+        if let Some(cpu) = self.active_cpu() {
+            self.wake(cpu, Wake::Line { bit, level });
         }
     }
 
@@ -122,12 +178,9 @@ impl Machine {
     /// Passes a packet to the server of its range, which makes it the response, and gives the latency in ticks.
     #[inline(always)]
     fn pass(&mut self, packet: &mut Packet) -> u64
-        requires quiet { self.old.out.acts ≡ [] }
-        requires size { packet.old.size ≤ 64 }
-        requires ready { IfSome (destination (sys_of state self.old).router.routes packet.old.addr) (λ i. IsReadyForPacket (delivery_of state self.old []) self.old.queue.table i packet.old) }
-        requires way { (sys_of state self.old).router.latency ≤ 2 * LATENCY_MAX }
-        ensures delivered { (sender : ℕ) → delivery_of state self.new (Done sender packet.new result ∷ []) ≡ deliver_atomic (delivery_of state self.old []) sender packet.old (destination (sys_of state self.old).router.routes packet.old.addr) }
-        ensures quiet { self.new.out.acts ≡ [] }
+        requires room { HasItemRoom (delivery_of state self.old) }
+        requires allowed { MayGoOn (delivery_of state self.old) self.old.queue.table packet.old }
+        ensures delivered { (sender : ℕ) → answered (delivery_of state self.new) sender packet.new result ≡ deliver_atomic (delivery_of state self.old) sender packet.old (destination (sys_of state self.old).router.routes packet.old.addr) }
         ensures table { self.new.queue.table ≡ self.old.queue.table }
     {
         let way = self.router.latency();
@@ -143,15 +196,15 @@ impl Machine {
     /// Passes a packet to a server, and gives the server's latency in ticks.
     #[inline(always)]
     fn pass_to(&mut self, server: ObjId, packet: &mut Packet) -> u64
-        requires quiet { self.old.out.acts ≡ [] }
-        requires ready { IsReadyForPacket (delivery_of state self.old []) self.old.queue.table server.0 packet.old }
-        ensures passed { delivery_of state self.new [] ≡ passed_to (delivery_of state self.old []) server.0 packet.old }
+        requires room { HasItemRoom (delivery_of state self.old) }
+        requires ready { IsReadyForPacket (delivery_of state self.old) self.old.queue.table server.0 packet.old }
+        ensures passed { delivery_of state self.new ≡ passed_to (delivery_of state self.old) server.0 packet.old }
         ensures packet { packet.new ≡ (pass_at (sys_of state self.old) server.0 packet.old).packet }
         ensures latency { result ≡ way_latency (pass_at (sys_of state self.old) server.0 packet.old).way }
         ensures most { result ≤ LATENCY_MAX }
-        ensures quiet { self.new.out.acts ≡ [] }
         ensures table { self.new.queue.table ≡ self.old.queue.table }
     {
+        self.out.for_sender(server);
         let way = pass_box(
             &mut self.parts[server.0 as usize],
             packet,

@@ -18,7 +18,7 @@ const DATA: u8 = 1;
 pub(crate) fn count(counters: &mut Counters, entries: &[Entry])
     requires counts { IsCountedUpTo (2 ^ 60) counters.old.counts }
     requires events { counters.old.counts.events < 2 ^ 60 }
-    requires few { length entries.now ≤ 64 }
+    requires few { length entries.now ≤ 528 }
     ensures counts { counters.new.counts ≡ count_event counters.old.counts entries.now }
     ensures since { counters.new.since ≡ counters.old.since }
 {

@@ -4,9 +4,11 @@ ghost use Rattle.cfg_tree.specs.declared.config.Config.{Config};
 ghost use Rattle.elf_image.specs.Image.{LiesInRam};
 ghost use Rattle.elf_image.specs.Ram.{bytes_of_piece, ram_of};
 ghost use Rattle.gc_base.specs.declared.limits.TheConstants.{RAM_MAX};
+ghost use Rattle.gm_model.specs.Drained.{IsDrained};
 ghost use Rattle.gm_model.specs.Start.{start_state, with_raw};
 ghost use Rattle.gm_model.specs.View.{own_ram};
 ghost use Rattle.kernel.specs.Load.{IsAsBuilt, entered};
+ghost use Rattle.kernel.specs.Settled.{IsSettled};
 ghost use Rattle.kernel.specs.Shown.{sys_of, entries_of, IsMachine};
 
 use crate::boxes::give_arch_box;
@@ -24,6 +26,7 @@ impl Machine {
         ensures loaded { (c : Config) → IsAsBuilt c (sys_of state self.old) → All (LiesInRam c.system_ram) image.now.pieces
             → sys_of state self.new ≡ start_state c image.now.entry (ram_of image.now c.system_ram) }
         ensures entries { entries_of self.new ≡ entries_of self.old }
+        ensures settled { IsSettled (sys_of state self.new) }
         ensures machine { IsMachine state self.new }
     {
         for piece in image.pieces.items() {
@@ -35,6 +38,7 @@ impl Machine {
     /// Puts a piece into RAM, its zeros with it.
     fn load_piece(&mut self, piece: &Piece)
         requires machine { IsMachine state self.old }
+        requires drained { IsDrained (sys_of state self.old) }
         requires within { LiesInRam (length (own_ram (sys_of state self.old).objects)) piece.now }
         requires size { length (own_ram (sys_of state self.old).objects) ≤ RAM_MAX }
         ensures raw { sys_of state self.new ≡ with_raw piece.now.addr (bytes_of_piece piece.now) (sys_of state self.old) }

@@ -32,6 +32,8 @@ impl Machine {
     ghost use Rattle.gm_model.specs.Command.{resume_step};
     ghost use Rattle.gm_model.specs.View.{own_ram, program_state};
     ghost use Rattle.rv_step.specs.FlatMem.{ram_base};
+    ghost use Rattle.gm_model.specs.Drained.{IsDrained};
+    ghost use Rattle.kernel.specs.Settled.{IsSettled};
     ghost use Rattle.kernel.specs.Shown.{sys_of, entries_of, IsMachine};
 
     /// The tick at which it stands.
@@ -84,13 +86,15 @@ impl Machine {
         read_box(&self.parts[MEMORY.0 as usize], addr - RAM_BASE, to);
     }
 
-    /// Sets RAM's own bytes from an address on.
+    /// Sets RAM's own bytes from an address on, where the machine is drained.
     pub fn put_raw(&mut self, addr: u64, from: &[u8])
         requires machine { IsMachine state self.old }
+        requires drained { IsDrained (sys_of state self.old) }
         requires least { ram_base ≤ addr }
         requires most { addr - ram_base + length from.now ≤ length (own_ram (sys_of state self.old).objects) }
         ensures raw { sys_of state self.new ≡ with_raw addr from.now (sys_of state self.old) }
         ensures entries { entries_of self.new ≡ entries_of self.old }
+        ensures settled { IsSettled (sys_of state self.old) → IsSettled (sys_of state self.new) }
         ensures machine { IsMachine state self.new }
     {
         self.write_ram(addr - RAM_BASE, from);
@@ -107,9 +111,10 @@ impl Machine {
         write_box(&mut self.parts[MEMORY.0 as usize], at, from);
     }
 
-    /// Lets all parts go on, in the order of their paths.
+    /// Lets all parts of a machine that was asked to drain, and is drained, go on, in the order of their paths.
     pub fn resume_all(&mut self)
-        requires { IsMachine state self.old }
+        requires machine { IsMachine state self.old }
+        requires settled { IsSettled (sys_of state self.old) }
         ensures resumed { sys_of state self.new ≡ resumed_state (sys_of state self.old) }
         ensures entries { entries_of self.new ≡ entries_of self.old }
         ensures machine { IsMachine state self.new }

@@ -10,7 +10,7 @@ ghost use Rattle.gm_model.specs.AtomicMachine.{IsRunReplayed};
 ghost use Rattle.gm_model.specs.Deliver.{deliver, items_max};
 ghost use Rattle.gm_model.specs.Fire.{fire_first, event_delivered, counted};
 ghost use Rattle.gm_model.specs.Run.{console_of, reason_for, run_to};
-ghost use Rattle.kernel.specs.Ends.{TellsEnd, StopsWithin, IsFaultOf};
+ghost use Rattle.kernel.specs.Ends.{TellsEnd, StopsAtByte, IsFaultOf, last_noted};
 ghost use Rattle.kernel.specs.Ready.{IsUnderWay, MayServe, HasEventsLeft, at_tick, not_begun, without_first};
 ghost use Rattle.kernel.specs.declared.run_end.RunFault.{RunFault};
 
@@ -19,15 +19,15 @@ use crate::machine::Machine;
 use crate::reason::{has_retired, late_reason};
 use crate::run_end::{Fired, RunEnd, RunFault};
 use ev_queue::Due;
-use gc_base::{ObjId, Tick};
+use gc_base::Tick;
 use gc_outside::Sink;
 use gm_model::{Goal, Reason, Wake};
 
-/// How often an act, and the response to it, are delivered for one event at most.
-const DELIVERIES_MAX: u32 = 128;
+/// How many items are delivered for one event at most.
+const ITEMS_MAX: u32 = 256;
 
 impl Machine {
-    ghost use Rattle.kernel.specs.Shown.{sys_of, delivery_of, entries_of, flight_of, IsMachine};
+    ghost use Rattle.kernel.specs.Shown.{sys_of, delivery_of, entries_of, IsMachine};
 
     /// Serves the first pending event at its own tick, with all that it causes.
     pub fn fire(&mut self) -> Option<Fired>
@@ -69,35 +69,32 @@ impl Machine {
     {
         self.begin(due.tick);
         self.wake(due.owner, Wake::Event { slot: due.slot });
-        self.deliver(due.owner);
+        self.deliver();
         count(&mut self.counters, self.out.entries());
     }
 
     /// Stands at the tick of an event, which has asked for nothing and noted nothing yet.
     #[inline(always)]
     fn begin(&mut self, tick: Tick)
-        ensures begun { delivery_of state self.new [] ≡ not_begun (at_tick tick (sys_of state self.old)) }
-        ensures quiet { self.new.out.acts ≡ [] }
+        ensures begun { delivery_of state self.new ≡ not_begun (at_tick tick (sys_of state self.old)) }
         ensures table { self.new.queue.table ≡ self.old.queue.table }
     {
         self.tick = tick;
-        self.out.clear_acts();
+        self.out.clear_items();
         self.out.clear_entries();
     }
 
-    /// Delivers the act that a sender asked for, and those that it causes one after another.
+    /// Delivers what is to be delivered, one item after another, with all that it causes.
     #[inline(always)]
-    fn deliver(&mut self, sender: ObjId)
-        requires { IsUnderWay (flight_of state self.old sender.0) self.old.queue.table }
-        ensures delivered { delivery_of state self.new [] ≡ deliver items_max (flight_of state self.old sender.0) }
+    fn deliver(&mut self)
+        requires { IsUnderWay (delivery_of state self.old) self.old.queue.table }
+        ensures delivered { delivery_of state self.new ≡ deliver items_max (delivery_of state self.old) }
         ensures table { self.new.queue.table ≡ self.old.queue.table }
     {
-        let mut sender = sender;
-        'acts: for _n in 0..DELIVERIES_MAX {
-            let Some(next) = self.deliver_act(sender) else {
+        'items: for _n in 0..ITEMS_MAX {
+            if !self.deliver_item() {
                 break;
-            };
-            sender = next;
+            }
         }
     }
 
@@ -112,12 +109,14 @@ impl Machine {
         requires events { (sys_of state self.old).counts.events + g.budget < 2 ^ 55 }
 
         ensures ended { IfOk result (λ e. TellsEnd e (run_to (sys_of state self.old) g)) }
+        ensures budget { IfOk result (λ e. e.events ≤ g.budget) }
         ensures ran { OnOk result (sys_of state self.new ≡ (run_to (sys_of state self.old) g).ran.sys) }
         ensures console { OnOk result (Told (Appends (console_of (run_to (sys_of state self.old) g).ran.entries)) (C.taken console.old) (C.taken console.new)) }
+        ensures noted { OnOk result (entries_of self.new ≡ last_noted (sys_of state self.old) (entries_of self.old) (run_to (sys_of state self.old) g).events) }
         ensures replay { IsRunReplayed (sys_of state self.old) (run_to (sys_of state self.old) g).ran }
 
         // A fault of the console leaves the machine after the whole event whose byte was refused.
-        ensures stopped { OnErr result (StopsWithin (sys_of state self.old) g (sys_of state self.new) (C.taken console.old) (C.taken console.new)) }
+        ensures stopped { OnErr result (StopsAtByte (sys_of state self.old) g (sys_of state self.new) (entries_of self.new) (C.taken console.old) (C.taken console.new)) }
         ensures cause { IfErr result (λ f. IsFaultOf f (C.faults console.old) (C.faults console.new) (R.faults _report.old) (R.faults _report.new)) }
         ensures count { C.faults console.old ≤ C.faults console.new }
 
@@ -155,8 +154,10 @@ impl Machine {
         requires some { IsSome (first (sys_of state self.old).pending) }
         requires tick { IfSome (first (sys_of state self.old).pending) (λ d. d.tick ≤ TOP) }
         ensures fired { sys_of state self.new ≡ (fire_first (sys_of state self.old)).sys }
+        ensures entries { entries_of self.new ≡ (fire_first (sys_of state self.old)).entries }
         ensures console { OnOk result (Told (Appends (console_of (fire_first (sys_of state self.old)).entries)) (C.taken console.old) (C.taken console.new)) }
         ensures cut { OnErr result (Told (AppendsFront (console_of (fire_first (sys_of state self.old)).entries)) (C.taken console.old) (C.taken console.new)) }
+        ensures byte { OnErr result (length (console_of (fire_first (sys_of state self.old)).entries) ≡ 1) }
         ensures fault { IfErr result (λ f. (f ≡ RunFault.Console) × Rose (C.faults console.old) (C.faults console.new)) }
         ensures count { C.faults console.old ≤ C.faults console.new }
         ensures machine { IsMachine state self.new }

@@ -9,6 +9,7 @@ pub use Rattle.ev_queue.specs.SlotTable
 pub use Rattle.gm_model.specs.Allowed
 pub use Rattle.gm_model.specs.AtomicCpuStep
 pub use Rattle.gm_model.specs.Command
+pub use Rattle.gm_model.specs.Deliver
 pub use Rattle.gm_model.specs.Flow
 pub use Rattle.gm_model.specs.HartLine
 pub use Rattle.gm_model.specs.Kind

@@ -6,11 +6,13 @@
 #![tactic(auto)]
 
 mod handles;
+mod item;
 mod line_info;
 mod outbox;
 mod sim_object;
 
 pub use handles::Handles;
+pub use item::Item;
 pub use line_info::LineInfo;
 pub use outbox::Outbox;
 pub use sim_object::SimObject;

@@ -15,7 +15,7 @@ impl Ram {
     #[inline(always)]
     pub(crate) fn serve(&mut self, p: &mut Packet, out: &mut Outbox)
         requires size { p.old.size ≤ 64 }
-        requires room { length out.old.entries < 64 }
+        requires room { length out.old.entries < 528 }
         ensures device { Memory self.new ≡ (serve_memory self.old p.old p.old.cmd (in_ram self.old p.old.addr p.old.size)).device }
         ensures packet { p.new ≡ (serve_memory self.old p.old p.old.cmd (in_ram self.old p.old.addr p.old.size)).response }
         ensures noted { out.new ≡ record out.old { entries = out.old.entries ++ (serve_memory self.old p.old p.old.cmd (in_ram self.old p.old.addr p.old.size)).entries } }
@@ -39,7 +39,7 @@ impl Ram {
         requires cmd { p.old.cmd ≡ Read }
         requires size { p.old.size ≤ 64 }
         requires within { within ≡ in_ram self.now p.old.addr p.old.size }
-        requires room { length out.old.entries < 64 }
+        requires room { length out.old.entries < 528 }
         ensures packet { p.new ≡ (serve_memory self.now p.old Read within).response }
         ensures noted { out.new ≡ record out.old { entries = out.old.entries ++ (serve_memory self.now p.old Read within).entries } }
     {
@@ -56,7 +56,7 @@ impl Ram {
         requires cmd { p.old.cmd ≡ Write }
         requires size { p.old.size ≤ 64 }
         requires within { within ≡ in_ram self.old p.old.addr p.old.size }
-        requires room { length out.old.entries < 64 }
+        requires room { length out.old.entries < 528 }
         ensures device { Memory self.new ≡ (serve_memory self.old p.old Write within).device }
         ensures packet { p.new ≡ (serve_memory self.old p.old Write within).response }
         ensures noted { out.new ≡ record out.old { entries = out.old.entries ++ (serve_memory self.old p.old Write within).entries } }

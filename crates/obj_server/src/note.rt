@@ -53,7 +53,7 @@ fn writes(cmd: Cmd) -> bool
 #[inline(always)]
 pub(crate) fn note(cmd: Cmd, response: &Packet, device: bool, out: &mut Outbox)
     requires size { response.now.size ≤ 64 }
-    requires room { length out.old.entries < 64 }
+    requires room { length out.old.entries < 528 }
     ensures { out.new ≡ record out.old { entries = out.old.entries ++ served_entries (record response.now { cmd = cmd }) response.now device } }
 {
     if response.src < NOTED_SOURCES {

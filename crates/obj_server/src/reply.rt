@@ -35,7 +35,7 @@ pub fn read_response(p: &mut Packet, bytes: &[u8])
 pub fn answer_read(p: &mut Packet, bytes: &[u8], device: bool, out: &mut Outbox)
     requires size { p.old.size ≤ 64 }
     requires bytes { length bytes.now ≤ 64 }
-    requires room { length out.old.entries < 64 }
+    requires room { length out.old.entries < 528 }
     ensures packet { p.new ≡ response_with p.old bytes.now }
     ensures noted { out.new ≡ record out.old { entries = out.old.entries ++ served_entries p.old p.new device } }
 {
@@ -48,7 +48,7 @@ pub fn answer_read(p: &mut Packet, bytes: &[u8], device: bool, out: &mut Outbox)
 #[inline(always)]
 pub fn answer_write(p: &mut Packet, device: bool, out: &mut Outbox)
     requires size { p.old.size ≤ 64 }
-    requires room { length out.old.entries < 64 }
+    requires room { length out.old.entries < 528 }
     ensures packet { p.new ≡ write_response p.old }
     ensures noted { out.new ≡ record out.old { entries = out.old.entries ++ served_entries p.old p.new device } }
 {
@@ -79,7 +79,7 @@ fn fail(p: &mut Packet)
 /// Refuses a request by fault, as a device does, and notes it.
 pub fn refuse(p: &mut Packet, out: &mut Outbox)
     requires size { p.old.size ≤ 64 }
-    requires room { length out.old.entries < 64 }
+    requires room { length out.old.entries < 528 }
     ensures packet { p.new ≡ fault_response p.old p.old.cmd }
     ensures noted { out.new ≡ record out.old { entries = out.old.entries ++ served_entries p.old p.new true } }
 {

@@ -15,8 +15,8 @@ use Rattle.gm_model.specs.declared.entry.Entry.{Entry}
 use Rattle.gm_model.specs.declared.goal.Goal.{Goal}
 use Rattle.gm_model.proofs.ConsoleBytes.{console-append}
 use Rattle.gm_model.proofs.RunEnds.{runs_end, budget_ends}
-use Rattle.kernel.proofs.Runs.{events_more}
-use Rattle.kernel.specs.Ends.{StopsWithin, TellsEnd}
+use Rattle.kernel.proofs.Runs.{events_more, stopped_bytes}
+use Rattle.kernel.specs.Ends.{StopsAtByte, TellsEnd}
 use Rattle.kernel.specs.declared.run_end.RunEnd.{RunEnd as ToldEnd}
 use Rattle.session.specs.Script.{Written, run_line, run_written, then_written, stop_written, script_written}
 use Rattle.session.specs.Sinks.{IsWhole, IsFront}
@@ -63,8 +63,8 @@ run_counts s g =
     omega (arith, ap (λ r. r.sys.counts.events) e.ran, events_up s (run_to s g).events, events_within s g (run_to s g) e)
 
 -- where the console failed within a run, it has a front of the run's bytes
-pub stopped_front : (s : Sys) (g : Goal) (t : Sys) (a b : Option (List ℕ)) → StopsWithin s g t a b → Told (AppendsFront (console_of (run_to s g).ran.entries)) a b
-stopped_front s g t a b h =
+pub stopped_front : (s : Sys) (g : Goal) (t : Sys) (noted : List Entry) (a b : Option (List ℕ)) → StopsAtByte s g t noted a b → Told (AppendsFront (console_of (run_to s g).ran.entries)) a b
+stopped_front s g t noted a b h =
     let e = runs_end.run s g in
     let k : ℕ = suc h.before in
     let d : ℕ = (run_to s g).events - k in
@@ -74,7 +74,7 @@ stopped_front s g t a b h =
     let all : (run_to s g).ran.entries ≡ (timed_run s k).entries ++ more.0 = ap (λ r. r.entries) e.ran ∙ subst P same more.1 in
     let bytes : console_of (run_to s g).ran.entries ≡ console_of (timed_run s k).entries ++ console_of more.0 = ap console_of all ∙ console-append (timed_run s k).entries more.0 in
     let Q : List ℕ → Type 0 = λ xs. Told (AppendsFront xs) a b in
-    subst Q (sym bytes) (told_front_of_more (console_of (timed_run s k).entries) (console_of more.0) a b h.console)
+    subst Q (sym bytes) (told_front_of_more (console_of (timed_run s k).entries) (console_of more.0) a b (stopped_bytes s g t noted a b h))
 
 -- so far these stops were carried out
 pub record HasDone (budget : ℕ) (start : Sys) (stops : List Stop) (i : ℕ) (now : Sys) (c c' r r' : Option (List ℕ)) : Type 0 where

@@ -57,7 +57,7 @@ impl Running {
     /// Serves a request at once.
     pub(crate) fn serve(&mut self, p: &mut Packet, out: &mut Outbox)
         requires size { p.old.size ≤ 64 }
-        requires room { length out.old.entries < 64 }
+        requires room { length out.old.entries < 528 }
         ensures device { Exit self.new.code ≡ (serve_exit self.old.code p.old p.old.cmd (in_exit p.old.addr p.old.size)).device }
         ensures server { self.new.server ≡ self.old.server }
         ensures packet { p.new ≡ (serve_exit self.old.code p.old p.old.cmd (in_exit p.old.addr p.old.size)).response }
@@ -73,7 +73,7 @@ impl Running {
     /// Serves a write.
     fn write(&mut self, p: &mut Packet, out: &mut Outbox)
         requires size { p.old.size ≤ 64 }
-        requires room { length out.old.entries < 64 }
+        requires room { length out.old.entries < 528 }
         requires write { p.old.cmd ≡ Cmd.Write }
         ensures device { Exit self.new.code ≡ (serve_exit self.old.code p.old Cmd.Write (in_exit p.old.addr p.old.size)).device }
         ensures server { self.new.server ≡ self.old.server }

@@ -102,7 +102,7 @@ impl Running {
     pub(crate) fn serve(&mut self, p: &mut Packet, now: Tick, q: &mut EventQueue, out: &mut Outbox)
         requires size { p.old.size ≤ 64 }
         requires tick { now ≤ TOP }
-        requires room { length out.old.entries < 64 }
+        requires room { length out.old.entries < 528 }
         requires handle { IsTrue (gave q.old.table self.old.server.object.0 1 30) }
         ensures state { shown_uart (Some self.new) ≡ server_of self.old.server (serve_uart (uart_of self.old) p.old now p.old.cmd (in_uart p.old.addr p.old.size)).device }
         ensures packet { p.new ≡ (serve_uart (uart_of self.old) p.old now p.old.cmd (in_uart p.old.addr p.old.size)).response }
@@ -120,7 +120,7 @@ impl Running {
     fn read(&mut self, p: &mut Packet, out: &mut Outbox)
         requires size { p.old.size ≤ 64 }
         requires read { p.old.cmd ≡ Cmd.Read }
-        requires room { length out.old.entries < 64 }
+        requires room { length out.old.entries < 528 }
         ensures state { shown_uart (Some self.new) ≡ server_of self.old.server (serve_uart (uart_of self.old) p.old 0 Cmd.Read (in_uart p.old.addr p.old.size)).device }
         ensures packet { p.new ≡ (serve_uart (uart_of self.old) p.old 0 Cmd.Read (in_uart p.old.addr p.old.size)).response }
         ensures noted { out.new ≡ record out.old { entries = out.old.entries ++ (serve_uart (uart_of self.old) p.old 0 Cmd.Read (in_uart p.old.addr p.old.size)).entries } }
@@ -164,7 +164,7 @@ impl Running {
         requires size { p.old.size ≤ 64 }
         requires write { p.old.cmd ≡ Cmd.Write }
         requires tick { now ≤ TOP }
-        requires room { length out.old.entries < 64 }
+        requires room { length out.old.entries < 528 }
         requires handle { IsTrue (gave q.old.table self.old.server.object.0 1 30) }
         ensures state { shown_uart (Some self.new) ≡ server_of self.old.server (serve_uart (uart_of self.old) p.old now Cmd.Write (in_uart p.old.addr p.old.size)).device }
         ensures packet { p.new ≡ (serve_uart (uart_of self.old) p.old now Cmd.Write (in_uart p.old.addr p.old.size)).response }

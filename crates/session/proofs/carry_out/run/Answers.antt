@@ -19,4 +19,4 @@ returns-in-Ok-clause-counted g c =
     search (rules, k)
 
 pub returns-in-Err-clause-cut : goal.returns-in-Err-clause-cut
-returns-in-Err-clause-cut g c = cut_bytes _ _ _ _ _ (stopped_front _ _ _ _ _ c.in-Err.ensures.stopped) (ap g.R.Sink.taken c.in-Err.ensures.report)
+returns-in-Err-clause-cut g c = cut_bytes _ _ _ _ _ (stopped_front _ _ _ _ _ _ c.in-Err.ensures.stopped) (ap g.R.Sink.taken c.in-Err.ensures.report)

@@ -1,21 +1,27 @@
-use Rattle.std.proofs.Common.{◌∙◌}
-use Rattle.kernel.proofs.Delivered.{still_under_way, two_delivered, none_left, all_made}
+use Rattle.std.proofs.Common.{◌∙◌, refl}
+use Rattle.kernel.proofs.Delivered.{still_under_way, delivers_none, delivers_more, delivers_all, delivers_last}
 use Rattle.kernel.proofs.machine.Machine.deliver.Goals as goal
 
-pub acts-preserved : goal.acts-preserved
-acts-preserved g c =
-    let i = c.acts.invariant in
-    let d = c.in-Some.ensures in
-    record {
-      same = two_delivered c.acts._n _ _ _ c.acts-test.true d.delivered i.same;
-      under_way = rw d.table (still_under_way _ _ c.acts.self.queue.table d.delivered i.under_way);
-      table = d.table ∙ i.table;
-    }
+pub items-init : goal.items-init
+items-init g c = record {
+  delivered = delivers_none _;
+  table = refl;
+}
 
-pub returns-after-acts-clause-delivered : goal.returns-after-acts-clause-delivered
-returns-after-acts-clause-delivered g c = all_made _ _ c.acts.sender.0 c.acts.self.out.acts c.acts._n _ _ c.acts-test.false c.requires c.acts.invariant.same
+pub deliver_item-requires : goal.deliver_item-requires
+deliver_item-requires g c = rw c.items.invariant.table (still_under_way c.items._n _ _ _ c.items.invariant.delivered c.requires)
 
-pub returns-in_default-clause-delivered : goal.returns-in_default-clause-delivered
-returns-in_default-clause-delivered g c =
-    let d = c.in_default.ensures in
-    rw d.none (none_left _ _ c.acts.sender.0 c.acts.self.out.acts c.acts._n _ d.landed c.acts.invariant.same)
+pub items-preserved : goal.items-preserved
+items-preserved g c = record {
+  delivered = delivers_more c.items._n _ _ _ c.items.invariant.delivered (rw c.if-not-deliver_item.false at c.deliver_item.ensures.delivered);
+  table = c.deliver_item.ensures.table ∙ c.items.invariant.table;
+}
+
+pub returns-then-not-deliver_item-clause-delivered : goal.returns-then-not-deliver_item-clause-delivered
+returns-then-not-deliver_item-clause-delivered g c =
+    let none = rw c.if-not-deliver_item.true at c.deliver_item.ensures.none in
+    let landed = rw c.if-not-deliver_item.true at c.deliver_item.ensures.landed in
+    none ∙ delivers_last c.items._n _ _ _ landed c.requires c.items.invariant.delivered
+
+pub returns-after-items-clause-delivered : goal.returns-after-items-clause-delivered
+returns-after-items-clause-delivered g c = delivers_all c.items._n _ _ _ c.items-test.false c.requires c.items.invariant.delivered

@@ -4,7 +4,7 @@ use Rattle.kernel.proofs.Runs.{pop_may, byte_few, fired_sys, fired_entries, fire
 use Rattle.kernel.proofs.machine.Machine.fire.Goals as goal
 
 pub returns-in_err-due-clause-replay : goal.returns-in_err-due-clause-replay
-returns-in_err-due-clause-replay g c = first_replayed _ c.requires.machine.sound.machine
+returns-in_err-due-clause-replay g c = first_replayed _ _ c.requires.machine.sound
 
 pub serve-requires : goal.serve-requires
 serve-requires g c =
@@ -37,7 +37,7 @@ returns-clause-console g c =
     _ (c.entries.ensures ∙ c.serve.ensures.entries))
 
 pub returns-clause-replay : goal.returns-clause-replay
-returns-clause-replay g c = first_replayed _ c.requires.machine.sound.machine
+returns-clause-replay g c = first_replayed _ _ c.requires.machine.sound
 
 pub returns-clause-machine : goal.returns-clause-machine
 returns-clause-machine g c =

@@ -1,6 +1,6 @@
 use Rattle.std.proofs.Common.{◌≡◌, ◌<◌, ◌∙◌, refl, ap, subst, arith, List, get_or, length}
 use Rattle.elf_image.specs.declared.piece.Piece.{Piece}
-use Rattle.kernel.proofs.Loads.{start_zeros, piece_fits, piece_put, image_put, entered_kept}
+use Rattle.kernel.proofs.Loads.{start_zeros, piece_fits, piece_put, image_put, entered_kept, loading_drained, loaded_settled}
 use Rattle.kernel.proofs.machine.Machine.load_image.Goals as goal
 
 pub loop-piece-init : goal.loop-piece-init
@@ -40,3 +40,10 @@ pub returns-clause-machine : goal.returns-clause-machine
 returns-clause-machine g c = record {
   sound = entered_kept _ _ _ _ c.args.image.now.entry c.loop-piece.invariant.machine.sound c.enter.ensures.entered c.enter.ensures.table;
 }
+
+pub load_piece-requires-clause-drained : goal.load_piece-requires-clause-drained
+load_piece-requires-clause-drained g c = loading_drained _ _ _ _ c.loop-piece.invariant.put c.requires.fits
+
+pub returns-clause-settled : goal.returns-clause-settled
+returns-clause-settled g c =
+    loaded_settled _ _ c.args.image.now (image_put _ _ _ c.args.image.now c.loop-piece.piece-index (omega (arith, c.loop-piece-test.false, ap length c.items-piece-items.ensures)) c.loop-piece.invariant.put c.enter.ensures.entered) c.requires.fits

@@ -1,8 +1,11 @@
-use Rattle.std.proofs.Common.{◌∙◌, refl, sym, ap, arith, List, ℕ, length, drop}
+use Rattle.std.proofs.Common.{◌∙◌, refl, sym, ap, subst, arith, List, ℕ, length, drop, take}
 use Rattle.std.proofs.lemmas.List.{length-drop, length-take}
 use Rattle.elf_image.proofs.RamLaws.{length-bytes_of_piece}
 use Rattle.elf_image.specs.Ram.{bytes_of_piece}
 use Rattle.kernel.proofs.Loads.{block_put, raw_nothing}
+use Rattle.gm_model.specs.Drained.{IsDrained}
+use Rattle.gm_model.specs.Sys.{Sys}
+use Rattle.kernel.proofs.SettledLemmas.{put_drained}
 use Rattle.kernel.proofs.machine.Machine.load_piece.Goals as goal
 
 pub overflow_add-piece : goal.overflow_add-piece
@@ -35,3 +38,8 @@ loop-block-preserved g c =
       machine = c.put_raw.ensures.machine;
       within = omega (arith, few, length-drop c.loop-block.done bytes, i.within);
     }
+
+pub put_raw-requires-clause-drained : goal.put_raw-requires-clause-drained
+put_raw-requires-clause-drained g c =
+    let P : Sys → Type 0 = IsDrained in
+    subst P (sym c.loop-block.invariant.put) (put_drained _ c.args.piece.now.addr (take c.loop-block.done (bytes_of_piece c.args.piece.now)) c.requires.drained)

@@ -8,8 +8,8 @@ returns-clause-passed g c =
     let old = c.args.self.now in
     passed_shown _ old.parts.items c.args.server.0 c.index_mut.result.now (rw length-map at c.requires.ready.ready.there) c.index_mut.ensures.value
     old.tick old.counters.since old.counters.counts old.draining old.router
-    c.args.packet.now old.out c.pass_box-way.new.out old.queue c.pass_box-way.new.q c.pass_box-way.new.part
-    e.state e.events e.out
+    c.args.packet.now old.out c.for_sender.new.self c.pass_box-way.new.out old.queue c.pass_box-way.new.q c.pass_box-way.new.part
+    c.for_sender.ensures e.state e.events e.out
 
 pub returns-clause-most : goal.returns-clause-most
 returns-clause-most g c =

@@ -21,7 +21,7 @@ pub resume_box-requires-clause-handles : goal.resume_box-requires-clause-handles
 resume_box-requires-clause-handles g c =
     let i = c.loop-i.invariant in
     let v = c.loop-i.self.parts in
-    handles_still _ _ _ _ v.items c.loop-i.i c.index_mut.result.now c.requires.sound.parts i.table
+    handles_still _ _ _ _ v.items c.loop-i.i c.index_mut.result.now c.requires.sound i.table
     (omega (arith, v.ok.0, i.len, c.len-i-end.ensures, c.loop-i-test.true)) c.index_mut.ensures.value i.rest
 
 pub loop-i-preserved : goal.loop-i-preserved

@@ -1,5 +1,5 @@
 use Rattle.std.proofs.Common.{arith, rules, refl, ◌-◌}
-use Rattle.kernel.proofs.Runs.{begun_sys, begun_bytes, reason_is, tells_end, ends_sys, ends_bytes, run_to_replayed, run_more, retired_here, wrote_more, none_before, events_running, stops_within, last_reason}
+use Rattle.kernel.proofs.Runs.{begun_sys, begun_bytes, reason_is, tells_end, ends_sys, ends_bytes, ends_noted, run_to_replayed, run_more, retired_here, wrote_more, noted_more, none_before, events_running, stops_at_byte, last_reason}
 use Rattle.kernel.proofs.machine.Machine.run.Goals as goal
 
 pub run-init : goal.run-init
@@ -7,6 +7,7 @@ run-init g c = record {
   ran = begun_sys _;
   none = λ k l. absurd (omega (arith, l));
   wrote = begun_bytes _ _;
+  noted = refl;
   faults = omega arith;
   counted = omega arith;
   machine = c.requires.machine;
@@ -30,18 +31,24 @@ returns-in-Some-clause-console g c =
     let n = retired_here _ _ c.run.events c.retired-start.result c.retired.result i.ran c.retired-start.ensures c.retired.ensures in
     ends_bytes _ c.args.g c.run.events c.in-Some.reason (reason_is _ _ c.run.events i.ran c.args.g (c.retired.result - c.retired-start.result) _ n.1 c.in-Some.ensures) i.none _ _ i.wrote
 
+pub returns-in-Some-clause-noted : goal.returns-in-Some-clause-noted
+returns-in-Some-clause-noted g c =
+    let i = c.run.invariant in
+    let n = retired_here _ _ c.run.events c.retired-start.result c.retired.result i.ran c.retired-start.ensures c.retired.ensures in
+    ends_noted _ c.args.g c.run.events c.in-Some.reason (reason_is _ _ c.run.events i.ran c.args.g (c.retired.result - c.retired-start.result) _ n.1 c.in-Some.ensures) i.none _ _ i.noted
+
 pub returns-in-Some-clause-replay : goal.returns-in-Some-clause-replay
-returns-in-Some-clause-replay g c = run_to_replayed _ _ c.requires.machine.sound.machine
+returns-in-Some-clause-replay g c = run_to_replayed _ _ _ c.requires.machine.sound
 
 pub returns-in_err-step-clause-replay : goal.returns-in_err-step-clause-replay
-returns-in_err-step-clause-replay g c = run_to_replayed _ _ c.requires.machine.sound.machine
+returns-in_err-step-clause-replay g c = run_to_replayed _ _ _ c.requires.machine.sound
 
 pub returns-in_err-step-clause-stopped : goal.returns-in_err-step-clause-stopped
 returns-in_err-step-clause-stopped g c =
     let i = c.run.invariant in
     let n = retired_here _ _ c.run.events c.retired-start.result c.retired.result i.ran c.retired-start.ensures c.retired.ensures in
     let none = reason_is _ _ c.run.events i.ran c.args.g (c.retired.result - c.retired-start.result) _ n.1 c.in_default.ensures in
-    let stops = stops_within _ c.args.g c.run.events _ _ _ _ _ i.ran i.none none c.step.ensures.fired i.wrote c.in_err-step.ensures.cut in
+    let stops = stops_at_byte _ c.args.g c.run.events _ _ _ _ _ _ i.ran i.none none c.step.ensures.fired c.step.ensures.entries c.in_err-step.ensures.byte i.wrote c.in_err-step.ensures.cut in
     search (rules, stops)
 
 pub run-preserved : goal.run-preserved
@@ -52,6 +59,7 @@ run-preserved g c =
       ran = run_more _ _ c.run.events i.ran _ c.step.ensures.fired;
       none = none_before c.args.g _ c.run.events i.none (reason_is _ _ c.run.events i.ran c.args.g (c.retired.result - c.retired-start.result) _ n.1 c.in_default.ensures);
       wrote = wrote_more _ _ c.run.events i.ran _ _ _ i.wrote c.in_ok-step.ensures.console;
+      noted = noted_more _ _ c.run.events i.ran _ _ c.step.ensures.entries;
       faults = omega (arith, i.faults, c.step.ensures.count);
       counted = omega (arith, i.counted, events_running _ _ i.machine.sound c.args.g c.run.events (c.retired.result - c.retired-start.result) c.in_default.ensures _ c.step.ensures.fired);
       machine = c.step.ensures.machine;
@@ -76,8 +84,14 @@ returns-clause-console g c =
     let n = retired_here _ _ c.run.events c.retired-start.result c.retired-2.result i.ran c.retired-start.ensures c.retired-2.ensures in
     ends_bytes _ c.args.g c.run.events c.in-Some-reason.reason (last_reason _ _ c.run.events i.ran c.args.g (c.retired-2.result - c.retired-start.result) _ n.1 c.in-Some-reason.ensures (omega (arith, c.run-test.false))) i.none _ _ i.wrote
 
+pub returns-clause-noted : goal.returns-clause-noted
+returns-clause-noted g c =
+    let i = c.run.invariant in
+    let n = retired_here _ _ c.run.events c.retired-start.result c.retired-2.result i.ran c.retired-start.ensures c.retired-2.ensures in
+    ends_noted _ c.args.g c.run.events c.in-Some-reason.reason (last_reason _ _ c.run.events i.ran c.args.g (c.retired-2.result - c.retired-start.result) _ n.1 c.in-Some-reason.ensures (omega (arith, c.run-test.false))) i.none _ _ i.noted
+
 pub returns-clause-replay : goal.returns-clause-replay
-returns-clause-replay g c = run_to_replayed _ _ c.requires.machine.sound.machine
+returns-clause-replay g c = run_to_replayed _ _ _ c.requires.machine.sound
 
 pub overflow_sub-insts : goal.overflow_sub-insts
 overflow_sub-insts g c = (retired_here _ _ c.run.events c.retired-start.result c.retired.result c.run.invariant.ran c.retired-start.ensures c.retired.ensures).0

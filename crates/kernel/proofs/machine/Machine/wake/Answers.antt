@@ -8,5 +8,5 @@ returns-clause-delivered g c =
     let old = c.args.self.now in
     woken_shown _ old.parts.items c.args.i.0 c.index_mut.result.now (rw length-map at c.requires.ready.ready.there) c.index_mut.ensures.value
     old.tick old.counters.since old.counters.counts old.draining old.router
-    c.args.w old.out c.wake_box.new.out old.queue c.wake_box.new.q c.wake_box.new.part
-    e.state e.events e.out c.requires.quiet
+    c.args.w old.out c.for_sender.new.self c.wake_box.new.out old.queue c.wake_box.new.q c.wake_box.new.part
+    c.for_sender.ensures e.state e.events e.out

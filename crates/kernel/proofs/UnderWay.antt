@@ -1,4 +1,5 @@
--- What is delivered in the middle of an event is allowed.
+-- What the machine's invariant says of an event that is under way, and of the machine between two events. All that the other
+-- proofs of this crate need of the invariant while an event is served stands here.
 use Rattle.std.proofs.Common.{rules, IfSome, ◌≡◌, ℕ, ◌+◌, ◌*◌, ◌^◌, ◌<◌, ◌≤◌, refl, sym, ap, subst, arith, Bool, true, false, cond, IsTrue, List, [], ◌∷◌, length, get_or, slice_get, Option, Some, None}
 use Rattle.ev_queue.specs.declared.due.Due.{Due}
 use Rattle.ev_queue.specs.declared.slot.Slot.{Slot}
@@ -12,34 +13,39 @@ use Rattle.gm_model.specs.Platform.{slot_classes}
 use Rattle.gm_model.specs.Router.{Route, destination}
 use Rattle.gm_model.specs.ObjState.{ObjState, Blank, AtomicCpu, Server, CpuStage, Rest, AwaitFetch, AwaitData, kind_of, object_of}
 use Rattle.gm_model.specs.AtomicCpuStep.{fetch_request, load_request, store_request}
-use Rattle.gm_model.specs.Sys.{Sys, object_at}
-use Rattle.gm_model.specs.Deliver.{Item, Sent, Done, Delivery}
-use Rattle.gm_model.specs.Fire.{taken_out}
-use Rattle.gm_model.specs.AtomicMachine.{atomic_routes, IsInStep, resting, fetching, fetched, loading, storing, loaded, stored, IsAtomicMachine}
-use Rattle.gm_model.specs.Sound.{gave_from, HasSoundParts, IsSound}
+use Rattle.gm_model.specs.Sys.{Sys, object_at, active_cpu}
+use Rattle.gm_model.specs.Deliver.{Item, Sent, Done, Delivery, deliver_first, deliver}
+use Rattle.gm_model.specs.Fire.{Ran, fire, timed_run, taken_out}
+use Rattle.gm_model.specs.Run.{console_of}
+use Rattle.gm_model.specs.AtomicMachine.{atomic_routes, IsInStep, resting, fetching, fetched, loading, storing, loaded, stored, IsAtomicMachine, IsRunReplayed}
+use Rattle.gm_model.specs.Sound.{gave_from, HasSoundParts, IsSound, IsCountedUpTo, AreSoon}
 use Rattle.gm_model.specs.declared.act.Act.{Act}
 use Rattle.gm_model.specs.declared.act.Act.TheVariants as acts
 use Rattle.gm_model.specs.declared.kind.Kind.TheVariants as kinds
 use Rattle.gm_model.specs.declared.packet.Packet.{Packet}
 use Rattle.gm_model.specs.declared.wake.Wake.TheVariants as wakes
+use Rattle.gm_model.proofs.ConsoleBytes.{fire_bytes}
 use Rattle.gm_model.proofs.ReplayLemmas.{need_narrow, IsNarrow}
+use Rattle.gm_model.proofs.ReplayRuns.{runs_replayed}
 use Rattle.gm_model.proofs.SoundParts.{numbered-at, slots-at, quick-at, owned-at, parts-taken_out}
-use Rattle.gm_model.proofs.SoundEvents.{begun_sound}
+use Rattle.gm_model.proofs.SoundEvents.{begun_sound, first_sound, delivered_sound, fire_sound}
 use Rattle.obj_core.specs.Handles.{HasHandles}
-use Rattle.kernel.specs.Ready.{IsReady, IsReadyForWake, IsReadyForPacket, IsUnderWay, HasEventsLeft, MayServe, with_first, not_begun}
+use Rattle.kernel.proofs.Deliveries.{first_counts}
+use Rattle.kernel.proofs.EntryLemmas.{counted_up_to}
+use Rattle.kernel.specs.Ready.{IsReady, IsReadyForWake, IsReadyForPacket, MayGoOn, IsUnderWay, HasEventsLeft, MayServe, not_begun}
 
 -- the handles of a part, by its kind and its number
-pub has_handles : (table : List Slot) (i : ℕ) (o : ObjState) → object_of o ≡ i → IsTrue (gave_from table i 0 (slot_classes (kind_of o))) → HasHandles table o
+has_handles : (table : List Slot) (i : ℕ) (o : ObjState) → object_of o ≡ i → IsTrue (gave_from table i 0 (slot_classes (kind_of o))) → HasHandles table o
 has_handles table i (Blank k) e h = tt
 has_handles table i (AtomicCpu s) e h = let P : ℕ → Type 0 = λ n. IsTrue (gave_from table n 0 (slot_classes kinds.AtomicCpu)) in subst P (sym e) h
 has_handles table i (Server s) e h = let P : ℕ → Type 0 = λ n. IsTrue (gave_from table n 0 (slot_classes (kind_of (Server s)))) in subst P (sym e) h
 
-pub handles-at : (s : Sys) (table : List Slot) (i : ℕ) → HasSoundParts s table → i < length s.objects → HasHandles table (object_at s i)
+handles-at : (s : Sys) (table : List Slot) (i : ℕ) → HasSoundParts s table → i < length s.objects → HasHandles table (object_at s i)
 handles-at s table i h l =
     (let P : ℕ → Type 0 = λ n. IsTrue (gave_from table n 0 (slot_classes (kind_of (object_at s i)))) in
     has_handles table i (object_at s i) (omega (arith, numbered-at 0 i s.objects (Blank kinds.AtomicCpu) h.numbered l)) (subst P (omega arith) (slots-at table 0 i s.objects (Blank kinds.AtomicCpu) h.slots l)))
 
-pub four : (s : Sys) (items : List Item) → IsAtomicMachine s items → length s.objects ≡ 4
+four : (s : Sys) (items : List Item) → IsAtomicMachine s items → length s.objects ≡ 4
 four s items h = ap (λ os. length os) h.objects
 
 -- an address goes to one of them
@@ -50,21 +56,6 @@ routed ram address k h = by_tests _ _ _ h where
   by_tests false true e r = let same : 2 ≡ k = cc in omega (arith, same)
   by_tests false false true r = let same : 3 ≡ k = cc in omega (arith, same)
   by_tests false false false r = cc
-
--- at most one item is to be delivered at a time
-pub one_item : (rs : List Route) (ram : ℕ) (a : Arch) (stage : CpuStage) (items : List Item) → IsInStep rs ram a stage items → length items ≤ 1
-one_item rs ram a Rest [] resting = omega arith
-one_item rs ram a Rest (_ ∷ _) h = elim h [ ]
-one_item rs ram a AwaitFetch _ (fetching n q awake within) = omega arith
-one_item rs ram a AwaitFetch _ (fetched q before c k) = omega arith
-one_item rs ram a (AwaitData _ _) _ (loading n w before q address size d) = omega arith
-one_item rs ram a (AwaitData _ _) _ (storing n w before q address size v d) = omega arith
-one_item rs ram a (AwaitData _ _) _ (loaded q w before later address d x c k) = omega arith
-one_item rs ram a (AwaitData _ _) _ (stored q w before later address size v d x c k) = omega arith
-
-pub only_one : (items : List Item) (i : Item) (is : List Item) → items ≡ i ∷ is → length items ≤ 1 → is ≡ []
-only_one items i [] e l = refl
-only_one items i (j ∷ is) e l = absurd (omega (arith, ap (λ xs. length xs) e))
 
 -- a packet that is passed on is short
 short : (a : Arch) (w address size : ℕ) → need a w ≡ demand.Load address size → size ≤ 8
@@ -105,6 +96,18 @@ sent_done rs ram a (AwaitData _ _) _ i latency p is (loaded q w before later add
 sent_done rs ram a (AwaitData _ _) _ i latency p is (stored q w before later address size v d x c k) e =
     let sender : 0 ≡ i = cc in sym sender
 
+-- no part sets a line yet
+no_line : (rs : List Route) (ram : ℕ) (a : Arch) (stage : CpuStage) (items : List Item) (i bit : ℕ) (level : Bool) (is : List Item)
+    → IsInStep rs ram a stage items → items ≡ Sent i (acts.SetLine bit level) ∷ is → ⊥
+no_line rs ram a Rest [] i bit level is resting e = cc
+no_line rs ram a Rest (_ ∷ _) i bit level is h e = elim h [ ]
+no_line rs ram a AwaitFetch _ i bit level is (fetching n q awake within) e = cc
+no_line rs ram a AwaitFetch _ i bit level is (fetched q latency c k) e = cc
+no_line rs ram a (AwaitData _ _) _ i bit level is (loading n w before q address size d) e = cc
+no_line rs ram a (AwaitData _ _) _ i bit level is (storing n w before q address size v d) e = cc
+no_line rs ram a (AwaitData _ _) _ i bit level is (loaded q w before later address d x c k) e = cc
+no_line rs ram a (AwaitData _ _) _ i bit level is (stored q w before later address size v d x c k) e = cc
+
 -- a part may be woken or passed a packet
 ready : (d : Delivery) (table : List Slot) (i : ℕ) → i < length d.sys.objects → HasSoundParts d.sys table → HasEventsLeft d.sys
     → d.sys.next ≤ 5 * d.sys.counts.events + 5 → length d.entries ≤ 10 → IsReady d table i
@@ -116,67 +119,93 @@ ready d table i l h events numbers noted = record {
   entries = omega (arith, noted);
 }
 
-within_ready : (d : Delivery) (table : List Slot) (it : Item) (i : ℕ) → IsUnderWay (with_first it d) table → i < 4 → IsReady d table i
-within_ready d table it i h l =
+ready_among : (d : Delivery) (table : List Slot) (is : List Item) (i : ℕ) → IsUnderWay d table → i < 4 → IsReady (record d { items = is }) table i
+ready_among d table is i h l =
     let w = h.sound in
-    ready d table i (omega (arith, l, four d.sys (it ∷ d.items) w.machine)) w.parts h.events (omega (arith, w.numbers)) (omega (arith, w.noted))
+    ready (record d { items = is }) table i (omega (arith, l, four d.sys d.items w.machine)) w.parts h.events (omega (arith, w.numbers)) (omega (arith, w.noted))
 
 may_pass : (o : ObjState) (p : Packet) → p.size ≤ 64 → MayPass o p
 may_pass (Blank k) p h = tt
 may_pass (AtomicCpu s) p h = tt
 may_pass (Server s) p h = h
 
-module _ (d : Delivery) (table : List Slot) (i : ℕ) (port : PortNo) (p : Packet) (h : IsUnderWay (with_first (Sent i (acts.Atomic port p)) d) table) where
+-- a packet that is the first item may be passed on
+pub pass_ready : (d : Delivery) (table : List Slot) (i : ℕ) (port : PortNo) (p : Packet) (is : List Item) → d.items ≡ Sent i (acts.Atomic port p) ∷ is
+    → IsUnderWay d table → MayGoOn (record d { items = is }) table p
+pass_ready d table i port p is e h = record {
+  size = omega (arith, narrow);
+  way = h.sound.parts.way;
+  server = by_route (destination d.sys.router.routes p.addr) (λ k r. server_ready k r);
+} where
   narrow : p.size ≤ 8
-  narrow =
-      let m = h.sound.machine in
-      short_packet _ _ _ m.parts.cpu.stage (Sent i (acts.Atomic port p) ∷ d.items) i port p d.items m.step refl
+  narrow = short_packet _ _ _ h.sound.machine.parts.cpu.stage d.items i port p is h.sound.machine.step e
 
-  packet_ready : (k : ℕ) → destination d.sys.router.routes p.addr ≡ Some k → IsReadyForPacket d table k p
-  packet_ready k r =
+  server_ready : (k : ℕ) → destination d.sys.router.routes p.addr ≡ Some k → IsReadyForPacket (record d { items = is }) table k p
+  server_ready k r =
       let m = h.sound.machine in
       let P : List Route → Type 0 = λ rs. destination rs p.addr ≡ Some k in
       let l : k < 4 = routed m.parts.cpu.common.ram p.addr k (subst P m.routes r) in
       record {
-        ready = within_ready d table (Sent i (acts.Atomic port p)) k h l;
+        ready = ready_among d table is k h l;
         packet = may_pass (object_at d.sys k) p (omega (arith, narrow));
-        latency = quick-at k d.sys.objects (Blank kinds.AtomicCpu) h.sound.parts.quick (omega (arith, l, four d.sys (Sent i (acts.Atomic port p) ∷ d.items) m));
+        latency = quick-at k d.sys.objects (Blank kinds.AtomicCpu) h.sound.parts.quick (omega (arith, l, four d.sys d.items m));
       }
 
-module _ (d : Delivery) (table : List Slot) (i : ℕ) (act : Act) (port : PortNo) (p : Packet) (e : act ≡ acts.Atomic port p)
-    (h : IsUnderWay (with_first (Sent i act) d) table) where
-  under_way : IsUnderWay (with_first (Sent i (acts.Atomic port p)) d) table
-  under_way = let P : Act → Type 0 = λ a. IsUnderWay (with_first (Sent i a) d) table in subst P e h
-
-  pub packet_size : p.size ≤ 64
-  packet_size = omega (arith, narrow d table i port p under_way)
-
-  pub packet_allowed : IfSome (destination d.sys.router.routes p.addr) (λ k. IsReadyForPacket d table k p)
-  packet_allowed = by_route (destination d.sys.router.routes p.addr) (λ k r. packet_ready d table i port p under_way k r) where
-    by_route : (o : Option ℕ) → ((k : ℕ) → o ≡ Some k → IsReadyForPacket d table k p) → IfSome o (λ k. IsReadyForPacket d table k p)
-    by_route None f = search rules
-    by_route (Some k) f = f k refl
-
-  pub packet_way : d.sys.router.latency ≤ 2000000
-  packet_way = h.sound.parts.way
+  by_route : (o : Option ℕ) → ((k : ℕ) → o ≡ Some k → IsReadyForPacket (record d { items = is }) table k p) → IfSome o (λ k. IsReadyForPacket (record d { items = is }) table k p)
+  by_route None f = search rules
+  by_route (Some k) f = f k refl
 
 -- the CPU is the first object
 cpu_first : (s : Sys) (items : List Item) (h : IsAtomicMachine s items) → object_at s 0 ≡ AtomicCpu (record h.parts.cpu { arch = Some h.parts.arch })
 cpu_first s items h = ap (λ os. get_or os 0 (Blank kinds.AtomicCpu)) h.objects
 
-pub done_ready : (d : Delivery) (table : List Slot) (i latency : ℕ) (p : Packet) → IsUnderWay (with_first (Done i p latency) d) table
-    → IsReadyForWake d table i (wakes.AtomicDone p latency)
-done_ready d table i latency p h =
+-- the sender of a response that is the first item may be told
+pub done_ready : (d : Delivery) (table : List Slot) (i latency : ℕ) (p : Packet) (is : List Item) → d.items ≡ Done i p latency ∷ is
+    → IsUnderWay d table → IsReadyForWake (record d { items = is }) table i (wakes.AtomicDone p latency)
+done_ready d table i latency p is e h =
     let m = h.sound.machine in
-    let sender = sent_done _ _ _ m.parts.cpu.stage (Done i p latency ∷ d.items) i latency p d.items m.step refl in
-    let soon : latency ≤ 2 ^ 32 = h.sound.soon.0 in
-    let P : ℕ → Type 0 = λ n. IsReadyForWake d table n (wakes.AtomicDone p latency) in
+    let sender = sent_done _ _ _ m.parts.cpu.stage d.items i latency p is m.step e in
+    let soon : latency ≤ 2 ^ 32 = (let Q : List Item → Type 0 = AreSoon in (let k : AreSoon (Done i p latency ∷ is) = subst Q e h.sound.soon in k.0)) in
+    let P : ℕ → Type 0 = λ n. IsReadyForWake (record d { items = is }) table n (wakes.AtomicDone p latency) in
     subst P (sym sender) (record {
-      ready = within_ready d table (Done i p latency) 0 h (omega arith);
-      wake = rw (cpu_first d.sys (Done i p latency ∷ d.items) m) soon;
+      ready = ready_among d table is 0 h (omega arith);
+      wake = rw (cpu_first d.sys d.items m) soon;
     })
 
--- any event may be served
+-- the active CPU may get an interrupt line's level that is the first item
+pub line_ready : (d : Delivery) (table : List Slot) (i bit : ℕ) (level : Bool) (is : List Item) → d.items ≡ Sent i (acts.SetLine bit level) ∷ is
+    → IsUnderWay d table → IfSome (active_cpu d.sys.objects) (λ k. IsReadyForWake (record d { items = is }) table k (wakes.Line bit level))
+line_ready d table i bit level is e h = absurd (no_line _ _ _ h.sound.machine.parts.cpu.stage d.items i bit level is h.sound.machine.step e)
+
+-- there are few parts
+pub parts_few : (d : Delivery) (table : List Slot) → IsUnderWay d table → length d.sys.objects ≤ 256
+parts_few d table h = omega (arith, four d.sys d.items h.sound.machine)
+
+-- after the first item the event is still under way
+pub first_under_way : (d : Delivery) (table : List Slot) → IsUnderWay d table → IsUnderWay (deliver_first d d.items) table
+first_under_way d table h = record {
+  sound = first_sound d table h.sound;
+  events = (let Q : ℕ → Type 0 = λ m. m < 2 ^ 55 in subst Q (ap (λ c. c.events) (sym (first_counts d d.items))) h.events);
+}
+
+-- once so many items are delivered, nothing is left
+pub all_delivered : (d : Delivery) (table : List Slot) → IsUnderWay d table → (deliver 256 d).items ≡ []
+all_delivered d table h = (delivered_sound d table h.sound).1
+
+-- what an event has noted can be counted
+pub record IsCountable (d : Delivery) : Type 0 where
+  pub counts : IsCountedUpTo (2 ^ 60) d.sys.counts
+  pub events : d.sys.counts.events < 2 ^ 60
+  pub few : length d.entries ≤ 528
+
+pub under_way_countable : (d : Delivery) (table : List Slot) → IsUnderWay d table → IsCountable d
+under_way_countable d table h = record {
+  counts = counted_up_to (10 * d.sys.counts.events) 1152921504606846976 d.sys.counts (omega (arith, h.events)) h.sound.counts;
+  events = omega (arith, h.events);
+  few = omega (arith, h.sound.noted);
+}
+
+-- between two events any pending one may be served
 may_wake : (o : ObjState) (slot : SlotNo) → MayWake o (wakes.Event slot)
 may_wake (Blank k) slot = tt
 may_wake (AtomicCpu s) slot = tt
@@ -196,3 +225,19 @@ may_serve s table n t e h events g l =
       };
       under_way = record { sound = begun; events = events };
     }
+
+-- and leaves a machine of which the same is so
+pub served_sound : (s : Sys) (table : List Slot) (n t : ℕ) → IsSound s table → t ≤ 4611703610613432320 → IsSound (fire s n t).sys table
+served_sound s table n t h l = fire_sound s table n t h l
+
+-- it brings at most one byte to the console
+pub one_byte_most : (s : Sys) (table : List Slot) (n t : ℕ) → IsSound s table → length (console_of (fire s n t).entries) ≤ 1
+one_byte_most s table n t h = fire_bytes s n t h.machine
+
+-- what a run notes is replayed
+pub run_replayed : (s : Sys) (table : List Slot) (n : ℕ) → IsSound s table → IsRunReplayed s (timed_run s n)
+run_replayed s table n h = runs_replayed.run s n h.machine
+
+-- and each part has its handles
+pub part_handles : (s : Sys) (table : List Slot) (i : ℕ) → IsSound s table → i < length s.objects → HasHandles table (object_at s i)
+part_handles s table i h l = handles-at s table i h.parts l

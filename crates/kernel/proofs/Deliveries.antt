@@ -1,0 +1,79 @@
+-- What deliveries leave of a machine, whichever they are.
+use Rattle.std.proofs.Common.{◌≡◌, ℕ, suc, zero, ◌+◌, ◌≤◌, length, refl, sym, ◌∙◌, ap, subst, arith, List, [], ◌∷◌, ◌++◌, Option, Some, None}
+use Rattle.std.proofs.lemmas.List.{length-append}
+use Rattle.gm_model.specs.Router.{destination}
+use Rattle.gm_model.specs.Sys.{active_cpu, pass_at, step_at}
+use Rattle.gm_model.specs.Deliver.{Item, Sent, Done, Delivery, handle, deliver, deliver_first, deliver_wake, deliver_line, deliver_atomic, sent_by, way_latency}
+use Rattle.gm_model.specs.Packet.{fault_response}
+use Rattle.gm_model.specs.declared.act.Act.TheVariants as acts
+use Rattle.gm_model.specs.declared.wake.Wake.{Wake}
+use Rattle.gm_model.specs.declared.wake.Wake.TheVariants as wakes
+
+-- a delivery counts nothing
+counts_kept : (d : Delivery) (i : Item) → (handle d i).sys.counts ≡ d.sys.counts
+counts_kept d (Sent j (acts.Offer port p)) = refl
+counts_kept d (Sent j (acts.CallRetry port)) = refl
+counts_kept d (Sent j (acts.SetLine bit level)) = by_cpu (active_cpu d.sys.objects) where
+  by_cpu : (o : Option ℕ) → (deliver_line d j (wakes.Line bit level) o).sys.counts ≡ d.sys.counts
+  by_cpu None = refl
+  by_cpu (Some i) = refl
+counts_kept d (Sent j (acts.Atomic port p)) = by_route (destination d.sys.router.routes p.addr) where
+  by_route : (o : Option ℕ) → (deliver_atomic d j p o).sys.counts ≡ d.sys.counts
+  by_route None = refl
+  by_route (Some i) = refl
+counts_kept d (Done j p latency) = refl
+
+pub first_counts : (d : Delivery) (is : List Item) → (deliver_first d is).sys.counts ≡ d.sys.counts
+first_counts d [] = refl
+first_counts d (i ∷ is) = counts_kept (record d { items = is }) i
+
+pub deliver_counts : (n : ℕ) (d : Delivery) → (deliver n d).sys.counts ≡ d.sys.counts
+unfolding deliver
+deliver_counts zero d = refl
+deliver_counts (suc n) d = deliver_counts n (deliver_first d d.items) ∙ first_counts d d.items
+
+-- a delivery keeps the items that wait
+wake_least : (d : Delivery) (i : ℕ) (w : Wake) → length d.items ≤ length (deliver_wake d i w).items
+wake_least d i w = omega (arith, length-append d.items (sent_by i (step_at d.sys i w).acts))
+
+handle_least : (d : Delivery) (i : Item) → length d.items ≤ length (handle d i).items
+handle_least d (Sent j (acts.Offer port p)) = omega arith
+handle_least d (Sent j (acts.CallRetry port)) = omega arith
+handle_least d (Sent j (acts.SetLine bit level)) = by_cpu (active_cpu d.sys.objects) where
+  by_cpu : (o : Option ℕ) → length d.items ≤ length (deliver_line d j (wakes.Line bit level) o).items
+  by_cpu None = omega arith
+  by_cpu (Some i) = wake_least d i (wakes.Line bit level)
+handle_least d (Sent j (acts.Atomic port p)) = by_route (destination d.sys.router.routes p.addr) where
+  by_route : (o : Option ℕ) → length d.items ≤ length (deliver_atomic d j p o).items
+  by_route None = omega (arith, length-append d.items (Done j (fault_response p p.cmd) d.sys.router.latency ∷ []))
+  by_route (Some i) =
+      omega (
+        arith,
+        length-append (d.items ++ sent_by i (pass_at d.sys i p).acts) (Done j (pass_at d.sys i p).packet (d.sys.router.latency + way_latency (pass_at d.sys i p).way) ∷ []),
+        length-append d.items (sent_by i (pass_at d.sys i p).acts),
+      )
+handle_least d (Done j p latency) = wake_least d j (wakes.AtomicDone p latency)
+
+first_least : (d : Delivery) (is : List Item) → d.items ≡ is → length d.items ≤ length (deliver_first d is).items + 1
+first_least d [] e = omega arith
+first_least d (i ∷ is) e = omega (arith, handle_least (record d { items = is }) i, ap (λ xs. length xs) e)
+
+pub deliver_least : (n : ℕ) (d : Delivery) → length d.items ≤ length (deliver n d).items + n
+unfolding deliver
+deliver_least zero d = omega arith
+deliver_least (suc n) d = omega (arith, first_least d d.items refl, deliver_least n (deliver_first d d.items))
+
+-- with nothing to deliver, nothing happens
+pub deliver_none : (n : ℕ) (d : Delivery) → d.items ≡ [] → deliver n d ≡ d
+unfolding deliver
+deliver_none zero d e = refl
+deliver_none (suc n) d e = (let P : List Item → Type 0 = λ is. deliver n (deliver_first d is) ≡ d in subst P (sym e) (deliver_none n d e))
+
+-- some items, and then others
+pub deliver_then : (m n : ℕ) (d : Delivery) → deliver n (deliver m d) ≡ deliver (m + n) d
+unfolding deliver
+deliver_then zero n d = (let P : ℕ → Type 0 = λ k. deliver n d ≡ deliver k d in let same : n ≡ 0 + n = omega arith in subst P same refl)
+deliver_then (suc m) n d =
+    let P : ℕ → Type 0 = λ k. deliver n (deliver m (deliver_first d d.items)) ≡ deliver k d in
+    let same : suc (m + n) ≡ suc m + n = omega arith in
+    subst P same (deliver_then m n (deliver_first d d.items))

@@ -1,0 +1,88 @@
+use Rattle.std.proofs.Common.{refl, ◌≡◌}
+use Rattle.kernel.proofs.Delivered.{sent_first, done_first, rest_room, first_delivered, answer_room, answer_ready, packet_delivered}
+use Rattle.kernel.proofs.UnderWay.{pass_ready, line_ready, done_ready, parts_few}
+use Rattle.kernel.proofs.machine.Machine.deliver_item.Goals as goal
+
+pub pass-latency-requires-clause-room : goal.pass-latency-requires-clause-room
+pass-latency-requires-clause-room g c =
+    let a = c.in-Some-Sent-default-Atomic in
+    let e = sent_first _ a.field-0.now a.sender a.field-0-1 _ a.ensures.some a.field-0-is a.field-0-1-is in
+    rw c.drop_first.ensures (rest_room _ _ _ _ e c.requires)
+
+pub pass-latency-requires-clause-allowed : goal.pass-latency-requires-clause-allowed
+pass-latency-requires-clause-allowed g c =
+    let a = c.in-Some-Sent-default-Atomic in
+    let e = sent_first _ a.field-0.now a.sender a.field-0-1 _ a.ensures.some a.field-0-is a.field-0-1-is in
+    rw c.drop_first.ensures (pass_ready _ _ a.sender.0 _ a.pkt _ e c.requires)
+
+pub answer-requires-clause-room : goal.answer-requires-clause-room
+answer-requires-clause-room g c =
+    let a = c.in-Some-Sent-default-Atomic in
+    let e = sent_first _ a.field-0.now a.sender a.field-0-1 _ a.ensures.some a.field-0-is a.field-0-1-is in
+    let p = c.pass-latency in
+    answer_room _ _ a.sender.0 _ a.pkt _ e c.requires _ p.new.packet p.result (rw c.drop_first.ensures at (p.ensures.delivered a.sender.0))
+
+pub answer-requires-clause-ready : goal.answer-requires-clause-ready
+answer-requires-clause-ready g c =
+    let a = c.in-Some-Sent-default-Atomic in
+    let e = sent_first _ a.field-0.now a.sender a.field-0-1 _ a.ensures.some a.field-0-is a.field-0-1-is in
+    let p = c.pass-latency in
+    rw p.ensures.table (answer_ready _ _ a.sender.0 _ a.pkt _ e c.requires _ p.new.packet p.result (rw c.drop_first.ensures at (p.ensures.delivered a.sender.0)))
+
+pub returns-in-Some-Sent-default-Atomic-clause-delivered : goal.returns-in-Some-Sent-default-Atomic-clause-delivered
+returns-in-Some-Sent-default-Atomic-clause-delivered g c =
+    let a = c.in-Some-Sent-default-Atomic in
+    let e = sent_first _ a.field-0.now a.sender a.field-0-1 _ a.ensures.some a.field-0-is a.field-0-1-is in
+    let p = c.pass-latency in
+    packet_delivered _ _ a.sender.0 _ a.pkt _ e c.requires _ p.new.packet p.result (rw c.drop_first.ensures at (p.ensures.delivered a.sender.0)) _ c.answer.ensures.told
+
+pub returns-in-Some-Done-clause-delivered : goal.returns-in-Some-Done-clause-delivered
+returns-in-Some-Done-clause-delivered g c =
+    let a = c.in-Some-Done in
+    let e = done_first _ a.field-0.now a.sender a.pkt a.latency a.ensures.some a.field-0-is in
+    first_delivered _ _ _ _ e (rw c.drop_first-in-Some-Done.ensures at c.wake.ensures.delivered)
+
+pub wake-requires-clause-room : goal.wake-requires-clause-room
+wake-requires-clause-room g c =
+    let a = c.in-Some-Done in
+    let e = done_first _ a.field-0.now a.sender a.pkt a.latency a.ensures.some a.field-0-is in
+    rw c.drop_first-in-Some-Done.ensures (rest_room _ _ _ _ e c.requires)
+
+pub wake-requires-clause-ready : goal.wake-requires-clause-ready
+wake-requires-clause-ready g c =
+    let a = c.in-Some-Done in
+    let e = done_first _ a.field-0.now a.sender a.pkt a.latency a.ensures.some a.field-0-is in
+    rw c.drop_first-in-Some-Done.ensures (done_ready _ _ a.sender.0 a.latency a.pkt _ e c.requires)
+
+pub set_line-requires-clause-room : goal.set_line-requires-clause-room
+set_line-requires-clause-room g c =
+    let a = c.in-Some-Sent-default-SetLine in
+    let e = sent_first _ a.field-0.now a.field-0-0 a.field-0-1 _ a.ensures.some a.field-0-is a.field-0-1-is in
+    rw c.drop_first-in-Some-Sent-default-SetLine.ensures (rest_room _ _ _ _ e c.requires)
+
+pub set_line-requires-clause-few : goal.set_line-requires-clause-few
+set_line-requires-clause-few g c = parts_few _ _ c.requires
+
+pub set_line-requires-clause-ready : goal.set_line-requires-clause-ready
+set_line-requires-clause-ready g c =
+    let a = c.in-Some-Sent-default-SetLine in
+    let e = sent_first _ a.field-0.now a.field-0-0 a.field-0-1 _ a.ensures.some a.field-0-is a.field-0-1-is in
+    rw c.drop_first-in-Some-Sent-default-SetLine.ensures (line_ready _ _ a.field-0-0.0 a.bit a.level _ e c.requires)
+
+pub returns-in-Some-Sent-default-SetLine-clause-delivered : goal.returns-in-Some-Sent-default-SetLine-clause-delivered
+returns-in-Some-Sent-default-SetLine-clause-delivered g c =
+    let a = c.in-Some-Sent-default-SetLine in
+    let e = sent_first _ a.field-0.now a.field-0-0 a.field-0-1 _ a.ensures.some a.field-0-is a.field-0-1-is in
+    first_delivered _ _ _ _ e (rw c.drop_first-in-Some-Sent-default-SetLine.ensures at (c.set_line.ensures.delivered a.field-0-0.0))
+
+pub returns-in-Some-Sent-default-Offer-clause-delivered : goal.returns-in-Some-Sent-default-Offer-clause-delivered
+returns-in-Some-Sent-default-Offer-clause-delivered g c =
+    let a = c.in-Some-Sent-default-Offer in
+    let e = sent_first _ a.field-0.now a.field-0-0 a.field-0-1 _ a.ensures.some a.field-0-is a.field-0-1-is in
+    first_delivered _ _ _ _ e (rw c.drop_first-in-Some-Sent-default-Offer.ensures refl)
+
+pub returns-in-Some-Sent-default-CallRetry-clause-delivered : goal.returns-in-Some-Sent-default-CallRetry-clause-delivered
+returns-in-Some-Sent-default-CallRetry-clause-delivered g c =
+    let a = c.in-Some-Sent-default-CallRetry in
+    let e = sent_first _ a.field-0.now a.field-0-0 a.field-0-1 _ a.ensures.some a.field-0-is a.field-0-1-is in
+    first_delivered _ _ _ _ e (rw c.drop_first-in-Some-Sent-default-CallRetry.ensures refl)
