@@ -1,2 +1,3 @@
-pub mod Own
+pub mod Device
+pub mod ServedBy
 pub mod Server
