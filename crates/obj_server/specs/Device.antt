@@ -13,9 +13,11 @@ abbrev pub own_changes : Option ℕ → List Change
 own_changes None = []
 own_changes (Some at) = Schedule character_slot device_class at ∷ []
 
--- the device's own event does nothing but make it this device
+-- in whichever server, the device's own event does nothing but make it this device
 abbrev pub HasEvent : Device → Device → Type 0
-HasEvent d after = (s : ServerState) (next : ℕ) → device_event s next d ≡ stays (Server (record s { device = after })) next
+HasEvent d after =
+    (s : ServerState) (next : ℕ)
+    → device_event (record s { device = d }) next d ≡ stays (Server (record s { device = after })) next
 
 -- a read without time makes the packet this one, where no write is queued
 abbrev pub ReadsAtOnce : Device → Packet → Packet → Type 0
