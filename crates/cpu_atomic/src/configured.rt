@@ -4,13 +4,13 @@ ghost use Rattle.ev_queue.specs.SlotTable.{gave};
 ghost use Rattle.gm_model.specs.AtomicCpuStep.{cpu_event, cpu_done, cpu_lined};
 ghost use Rattle.gm_model.specs.Command.{drain_step, resume_step, is_resting, is_asleep, is_awake, is_drained};
 ghost use Rattle.gm_model.specs.HartLine.{is_line};
-ghost use Rattle.gm_model.specs.declared.answer.Answer.TheVariants.{Nothing as NothingAnswer};
 ghost use Rattle.gm_model.specs.declared.own.Own.TheVariants as owns;
 ghost use Rattle.gc_base.specs.declared.limits.TheConstants.{PERIOD_MAX};
-ghost use Rattle.obj_core.specs.Out.{HasRoom, extended};
+ghost use Rattle.obj_core.specs.Out.{HasRoom};
+ghost use Rattle.obj_core.specs.Step.{Takes};
 
-use crate::frame::Frame;
 use crate::octets::word;
+use crate::sequencer::Sequencer;
 use crate::stage::Stage;
 use ev_queue::{EventHandle, EventQueue};
 use gc_base::Tick;
@@ -21,29 +21,29 @@ use rv_step::Arch;
 
 /// A configured CPU. It is the active one where it has the hart.
 #[derive(Drop)]
-pub struct Running {
-    pub(crate) frame: Frame,
+pub struct Configured {
+    pub(crate) sequencer: Sequencer,
     pub(crate) arch: Option<Arch>,
 }
 
-impl Running {
+impl Configured {
     ghost use Rattle.gm_model.specs.ObjState.{AtomicCpu};
     ghost use Rattle.obj_core.specs.Events.{with_changes};
     ghost use Rattle.gm_model.specs.Command.{start_of};
     ghost use Rattle.cpu_atomic.specs.Kept.{stage_of};
-    ghost use Rattle.cpu_atomic.specs.Shown.{shown, shown_frame};
+    ghost use Rattle.cpu_atomic.specs.Shown.{shown, cpu_state};
 
     // Set-up.
 
     /// One at its start, which is inactive.
-    pub(crate) fn start(params: &Params, period: u64, handle: EventHandle<50>) -> Running
+    pub(crate) fn start(params: &Params, period: u64, handle: EventHandle<50>) -> Configured
         requires owner { handle.owner ≡ params.now.object.0 }
         requires slot { handle.slot ≡ 0 }
         requires least { 1 ≤ period }
         requires most { period ≤ PERIOD_MAX }
         ensures { shown (Some result) ≡ start_of params.now (owns.AtomicCpu period) }
     {
-        let frame = Frame {
+        let sequencer = Sequencer {
             handle,
             object: params.object,
             line: params.line,
@@ -54,7 +54,10 @@ impl Running {
             stage: Stage::Rest,
             due: false,
         };
-        Running { frame, arch: None }
+        Configured {
+            sequencer,
+            arch: None,
+        }
     }
 
     // Own events.
@@ -62,18 +65,18 @@ impl Running {
     /// Its event is served: it begins an instruction, where it is at rest and awake.
     #[inline(always)]
     pub(crate) fn event(&mut self, now: Tick, q: &mut EventQueue, out: &mut Outbox)
-        requires known { IsTrue (gave q.old.table self.old.frame.object.0 0 50) }
+        requires known { IsTrue (gave q.old.table self.old.sequencer.object.0 0 50) }
         requires room { HasRoom out.old }
         requires tick { now ≤ TOP }
-        ensures state { shown (Some self.new) ≡ (cpu_event (record (shown_frame self.old.frame self.old.arch) { due = false }) out.old.next now self.old.arch (stage_of self.old.frame.stage)).state }
-        ensures events { q.new ≡ with_changes q.old (shown (Some self.old)) (cpu_event (record (shown_frame self.old.frame self.old.arch) { due = false }) out.old.next now self.old.arch (stage_of self.old.frame.stage)).changes }
-        ensures out { out.new ≡ extended out.old (cpu_event (record (shown_frame self.old.frame self.old.arch) { due = false }) out.old.next now self.old.arch (stage_of self.old.frame.stage)).acts (cpu_event (record (shown_frame self.old.frame self.old.arch) { due = false }) out.old.next now self.old.arch (stage_of self.old.frame.stage)).entries (cpu_event (record (shown_frame self.old.frame self.old.arch) { due = false }) out.old.next now self.old.arch (stage_of self.old.frame.stage)).next }
-        ensures answer { (cpu_event (record (shown_frame self.old.frame self.old.arch) { due = false }) out.old.next now self.old.arch (stage_of self.old.frame.stage)).answer ≡ NothingAnswer }
+        ensures { let before = cpu_state self.old.sequencer self.old.arch in
+            Takes (cpu_event (record before { due = false }) out.old.next now self.old.arch
+            (stage_of self.old.sequencer.stage))
+            (shown (Some self.old)) (shown (Some self.new)) q.old q.new out.old out.new }
     {
-        self.frame.due = false;
-        if let (Some(a), Stage::Rest) = (&mut self.arch, self.frame.stage) {
+        self.sequencer.due = false;
+        if let (Some(a), Stage::Rest) = (&mut self.arch, self.sequencer.stage) {
             if !a.asleep {
-                self.frame.begins(a, now, q, out);
+                self.sequencer.begins(a, now, q, out);
             }
         }
     }
@@ -90,29 +93,31 @@ impl Running {
         q: &mut EventQueue,
         out: &mut Outbox,
     )
-        requires known { IsTrue (gave q.old.table self.old.frame.object.0 0 50) }
+        requires known { IsTrue (gave q.old.table self.old.sequencer.object.0 0 50) }
         requires room { HasRoom out.old }
         requires tick { now ≤ TOP }
         requires latency { latency ≤ 2 ^ 32 }
-        ensures state { shown (Some self.new) ≡ (cpu_done (shown_frame self.old.frame self.old.arch) out.old.next now p.now latency self.old.arch (stage_of self.old.frame.stage)).state }
-        ensures events { q.new ≡ with_changes q.old (shown (Some self.old)) (cpu_done (shown_frame self.old.frame self.old.arch) out.old.next now p.now latency self.old.arch (stage_of self.old.frame.stage)).changes }
-        ensures out { out.new ≡ extended out.old (cpu_done (shown_frame self.old.frame self.old.arch) out.old.next now p.now latency self.old.arch (stage_of self.old.frame.stage)).acts (cpu_done (shown_frame self.old.frame self.old.arch) out.old.next now p.now latency self.old.arch (stage_of self.old.frame.stage)).entries (cpu_done (shown_frame self.old.frame self.old.arch) out.old.next now p.now latency self.old.arch (stage_of self.old.frame.stage)).next }
-        ensures answer { (cpu_done (shown_frame self.old.frame self.old.arch) out.old.next now p.now latency self.old.arch (stage_of self.old.frame.stage)).answer ≡ NothingAnswer }
+        ensures { let before = cpu_state self.old.sequencer self.old.arch in
+            Takes (cpu_done before out.old.next now p.now latency self.old.arch
+            (stage_of self.old.sequencer.stage))
+            (shown (Some self.old)) (shown (Some self.new)) q.old q.new out.old out.new }
     {
         let Some(a) = &mut self.arch else {
             return;
         };
-        match self.frame.stage {
+        match self.sequencer.stage {
             Stage::Rest => {}
-            Stage::AwaitFetch => self.frame.fetched(a, now, latency, word(&p.bytes), q, out),
+            Stage::AwaitFetch => self
+                .sequencer
+                .fetched(a, now, latency, word(&p.bytes), q, out),
             Stage::AwaitData {
                 word,
                 latency: before,
             } => {
                 // A copy, so that the wakes that need none of the packet's bytes don't copy it.
                 let response = *p;
-                let at = self.frame.end(now, before + latency);
-                self.frame.accessed(a, at, &response, word, q, out);
+                let at = self.sequencer.end(now, before + latency);
+                self.sequencer.accessed(a, at, &response, word, q, out);
             }
         }
     }
@@ -126,17 +131,16 @@ impl Running {
         q: &mut EventQueue,
         out: &mut Outbox,
     )
-        requires known { IsTrue (gave q.old.table self.old.frame.object.0 0 50) }
+        requires known { IsTrue (gave q.old.table self.old.sequencer.object.0 0 50) }
         requires room { HasRoom out.old }
         requires tick { now ≤ TOP }
         requires line { IsTrue (is_line bit) }
-        ensures state { shown (Some self.new) ≡ (cpu_lined (shown_frame self.old.frame self.old.arch) out.old.next now bit level self.old.arch).state }
-        ensures events { q.new ≡ with_changes q.old (shown (Some self.old)) (cpu_lined (shown_frame self.old.frame self.old.arch) out.old.next now bit level self.old.arch).changes }
-        ensures out { out.new ≡ extended out.old (cpu_lined (shown_frame self.old.frame self.old.arch) out.old.next now bit level self.old.arch).acts (cpu_lined (shown_frame self.old.frame self.old.arch) out.old.next now bit level self.old.arch).entries (cpu_lined (shown_frame self.old.frame self.old.arch) out.old.next now bit level self.old.arch).next }
-        ensures answer { (cpu_lined (shown_frame self.old.frame self.old.arch) out.old.next now bit level self.old.arch).answer ≡ NothingAnswer }
+        ensures { let before = cpu_state self.old.sequencer self.old.arch in
+            Takes (cpu_lined before out.old.next now bit level self.old.arch)
+            (shown (Some self.old)) (shown (Some self.new)) q.old q.new out.old out.new }
     {
         if let Some(a) = &mut self.arch {
-            self.frame.lined(a, now, bit, level, q, out);
+            self.sequencer.lined(a, now, bit, level, q, out);
         }
     }
 
@@ -144,9 +148,9 @@ impl Running {
 
     /// Whether it stands between two instructions.
     fn is_resting(&self) -> bool
-        ensures { result ≡ is_resting (stage_of self.now.frame.stage) }
+        ensures { result ≡ is_resting (stage_of self.now.sequencer.stage) }
     {
-        match self.frame.stage {
+        match self.sequencer.stage {
             Stage::Rest => true,
             Stage::AwaitFetch => false,
             Stage::AwaitData { .. } => false,
@@ -177,32 +181,32 @@ impl Running {
     pub(crate) fn drained(&self) -> bool
         ensures { result ≡ is_drained (shown (Some self.now)) }
     {
-        self.is_resting() && !self.frame.due
+        self.is_resting() && !self.sequencer.due
     }
 
     /// Lets it begin nothing new.
     pub(crate) fn drain(&mut self, q: &mut EventQueue)
-        requires known { IsTrue (gave q.old.table self.old.frame.object.0 0 50) }
+        requires known { IsTrue (gave q.old.table self.old.sequencer.object.0 0 50) }
         ensures state { shown (Some self.new) ≡ (drain_step (shown (Some self.old))).state }
         ensures events { q.new ≡ with_changes q.old (shown (Some self.old)) (drain_step (shown (Some self.old))).changes }
     {
-        self.frame.draining = true;
+        self.sequencer.draining = true;
         if self.is_resting() || self.is_asleep() {
-            q.deschedule(&self.frame.handle);
-            self.frame.due = false;
+            q.deschedule(&self.sequencer.handle);
+            self.sequencer.due = false;
         }
     }
 
     /// Lets it go on.
     pub(crate) fn resume(&mut self, now: Tick, q: &mut EventQueue)
-        requires known { IsTrue (gave q.old.table self.old.frame.object.0 0 50) }
+        requires known { IsTrue (gave q.old.table self.old.sequencer.object.0 0 50) }
         requires tick { now ≤ TOP }
         ensures state { shown (Some self.new) ≡ (resume_step (shown (Some self.old)) now).state }
         ensures events { q.new ≡ with_changes q.old (shown (Some self.old)) (resume_step (shown (Some self.old)) now).changes }
     {
-        self.frame.draining = false;
+        self.sequencer.draining = false;
         if self.is_awake() {
-            self.frame.goes_on(now, q);
+            self.sequencer.goes_on(now, q);
         }
     }
 }
