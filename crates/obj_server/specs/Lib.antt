@@ -1,3 +1,4 @@
 pub mod Device
+pub mod Served
 pub mod ServedBy
 pub mod Server

@@ -1,6 +1,6 @@
 // A part that serves requests, whichever device serves them: each is served at once, and takes the same latency.
 // This project's own rule. Not modelled yet: the queue of the timing mode.
-ghost use Rattle.std.specs.Prelude.{◌≡◌, None};
+ghost use Rattle.std.specs.Prelude.{◌≡◌};
 
 use crate::configured::Configured;
 use crate::device::{Device, Start};
@@ -22,20 +22,22 @@ pub struct Served<D: Device> {
 }
 
 impl<D: Device> Served<D> {
+    ghost use Rattle.gm_model.specs.ObjState.{Blank};
+
     // Set-up.
 
     /// One that isn't configured.
     pub fn blank() -> Served<D>
-        ensures { result.inner ≡ None }
+        ensures { ⟦<Served<D> as SimObject>⟧.state result ≡ Blank D.kind }
     {
         Served { inner: None }
     }
 }
 
 impl<D: Device> SimObject for Served<D> {
-    ghost use Rattle.obj_server.specs.Server.{server_of, shown_or_blank};
+    ghost use Rattle.obj_server.specs.Served.{served_state};
 
-    ghost state = { λ s. shown_or_blank D.kind (λ c. server_of c.server (D.shown c.device)) s.inner };
+    ghost state = { λ s. served_state D.kind D.shown s.inner };
 
     fn kind(&self) -> Kind {
         D::kind()
