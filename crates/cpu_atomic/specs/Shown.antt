@@ -4,12 +4,12 @@ use Rattle.rv_step.specs.declared.arch.Arch.{Arch}
 use Rattle.gm_model.specs.ObjState.{ObjState, Blank, AtomicCpu, AtomicCpuState}
 use Rattle.gm_model.specs.declared.kind.Kind.TheVariants as kinds
 use Rattle.cpu_atomic.specs.Kept.{stage_of}
-use Rattle.cpu_atomic.specs.declared.frame.Frame.{Frame}
-use Rattle.cpu_atomic.specs.declared.running.Running.{Running}
+use Rattle.cpu_atomic.specs.declared.sequencer.Sequencer.{Sequencer}
+use Rattle.cpu_atomic.specs.declared.configured.Configured.{Configured}
 
 -- what a configured one shows with this hart
-abbrev pub shown_frame : Frame → Option Arch → AtomicCpuState
-shown_frame f a = record {
+abbrev pub cpu_state : Sequencer → Option Arch → AtomicCpuState
+cpu_state f a = record {
   common = record { object = f.object.0; line = f.line; ram = f.ram; timing = f.timing; draining = f.draining };
   period = f.period;
   arch = a;
@@ -18,6 +18,6 @@ shown_frame f a = record {
 }
 
 -- what one shows; one that isn't configured is blank
-abbrev pub shown : Option Running → ObjState
+abbrev pub shown : Option Configured → ObjState
 shown None = Blank kinds.AtomicCpu
-shown (Some r) = AtomicCpu (shown_frame r.frame r.arch)
+shown (Some r) = AtomicCpu (cpu_state r.sequencer r.arch)

@@ -4,7 +4,7 @@
 ghost use Rattle.std.specs.Prelude.{◌≡◌};
 ghost use Rattle.gm_model.specs.declared.kind.Kind.TheVariants as kinds;
 
-use crate::running::Running;
+use crate::configured::Configured;
 use ev_queue::EventQueue;
 use gc_base::{NoMemory, Tick};
 use gm_model::{Answer, Kind, Own, Packet, Params, Wake, Way};
@@ -15,7 +15,7 @@ use std::alloc::Global;
 /// A CPU that does one instruction at each event, with its accesses passed at once.
 #[derive(Drop)]
 pub struct AtomicCpu {
-    running: Option<Running>,
+    inner: Option<Configured>,
 }
 
 impl AtomicCpu {
@@ -26,16 +26,16 @@ impl AtomicCpu {
 
     /// One that isn't configured.
     pub fn blank() -> AtomicCpu
-        ensures { shown result.running ≡ Blank kinds.AtomicCpu }
+        ensures { shown result.inner ≡ Blank kinds.AtomicCpu }
     {
-        AtomicCpu { running: None }
+        AtomicCpu { inner: None }
     }
 }
 
 impl SimObject for AtomicCpu {
     ghost use Rattle.cpu_atomic.specs.Shown.{shown};
 
-    ghost state = { λ s. shown s.running };
+    ghost state = { λ s. shown s.inner };
 
     fn kind(&self) -> Kind {
         Kind::AtomicCpu
@@ -52,7 +52,7 @@ impl SimObject for AtomicCpu {
         let mut mine = handles.cpu;
         if let Own::AtomicCpu { period } = params.own {
             if let Some(handle) = mine.pop() {
-                self.running = Some(Running::start(params, period, handle));
+                self.inner = Some(Configured::start(params, period, handle));
             }
         }
         Ok(())
@@ -62,7 +62,7 @@ impl SimObject for AtomicCpu {
 
     #[tactic(auto, unfolding(gm_model::specs::ObjectStep::object_step))]
     fn wake(&mut self, w: Wake, now: Tick, q: &mut EventQueue, out: &mut Outbox) -> Answer {
-        if let Some(r) = &mut self.running {
+        if let Some(r) = &mut self.inner {
             match &w {
                 Wake::Event { slot } => {
                     if slot.0 == 0 {
@@ -111,26 +111,26 @@ impl SimObject for AtomicCpu {
     // Mode, drain and resume.
 
     fn set_mode(&mut self, timing: bool) {
-        if let Some(r) = &mut self.running {
-            r.frame.timing = timing;
+        if let Some(r) = &mut self.inner {
+            r.sequencer.timing = timing;
         }
     }
 
     fn drain(&mut self, q: &mut EventQueue) {
-        if let Some(r) = &mut self.running {
+        if let Some(r) = &mut self.inner {
             r.drain(q);
         }
     }
 
     fn drained(&self) -> bool {
-        match &self.running {
+        match &self.inner {
             Some(r) => r.drained(),
             None => true,
         }
     }
 
     fn resume(&mut self, now: Tick, q: &mut EventQueue) {
-        if let Some(r) = &mut self.running {
+        if let Some(r) = &mut self.inner {
             r.resume(now, q);
         }
     }
@@ -150,21 +150,21 @@ impl SimObject for AtomicCpu {
     // The hart.
 
     fn arch(&self) -> Option<Arch> {
-        match &self.running {
+        match &self.inner {
             Some(r) => r.arch,
             None => None,
         }
     }
 
     fn take_arch(&mut self) -> Option<Arch> {
-        match &mut self.running {
+        match &mut self.inner {
             Some(r) => r.arch.take(),
             None => None,
         }
     }
 
     fn give_arch(&mut self, a: Arch) {
-        if let Some(r) = &mut self.running {
+        if let Some(r) = &mut self.inner {
             r.arch = Some(a);
         }
     }

@@ -6,11 +6,14 @@
 #![tactic(auto)]
 
 mod atomic_cpu;
-mod frame;
+mod configured;
+mod end_of_instruction;
 mod hart;
+mod lines;
 mod octets;
 mod packets;
-mod running;
+mod requests;
+mod sequencer;
 mod stage;
 
 pub use atomic_cpu::AtomicCpu;

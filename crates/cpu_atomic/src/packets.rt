@@ -7,6 +7,7 @@ ghost use Rattle.gm_model.specs.AtomicCpuStep.{fetch_request, load_request, stor
 
 use crate::octets::put_number;
 use gc_base::PktId;
+use gm_model::platform::RAM_BASE;
 use gm_model::{Cmd, Packet};
 
 /// The source of the fetches, as it is noted.
@@ -14,9 +15,6 @@ const FETCH: u8 = 0;
 
 /// The source of the data accesses.
 const DATA: u8 = 1;
-
-/// The address of RAM's first byte.
-const RAM_BASE: u64 = 0x8000_0000;
 
 /// Whether so many bytes at an address lie in RAM of this size.
 #[inline(always)]

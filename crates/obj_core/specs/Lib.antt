@@ -2,6 +2,7 @@ pub mod Out
 pub mod Handles
 pub mod Events
 pub mod Lines
+pub mod Step
 pub use Rattle.ev_queue.specs.Handle
 pub use Rattle.ev_queue.specs.PendingList
 pub use Rattle.ev_queue.specs.Queue

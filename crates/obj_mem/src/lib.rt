@@ -1,16 +1,16 @@
 //! RAM as a part of the machine, which serves a request at once.
 //!
-//! Its promise: each call of `Mem` is the rule of a server whose device is memory, on the state that it shows. Read
-//! `specs/Shown.antt` first, which says what state that is; the rule itself is `specs/Serve.antt` of `gm_model`.
+//! Its promise: `Ram` is the device `Memory` of `gm_model`, so that each call of `Mem` is the rule of its server. What all
+//! servers share is in `obj_server`. Read `specs/Serve.antt` of `gm_model` first.
 //! Only `configure` takes memory: RAM's bytes, zeroed. There is no queue yet, since no rule gives a server an offer.
 #![tactic(auto)]
 
-mod mem;
+mod device;
 mod ram;
-mod running;
 mod serve;
 
-pub use mem::Mem;
+pub use device::Mem;
+pub use ram::Ram;
 
 #[cfg(test)]
 mod tests;

@@ -7,15 +7,13 @@ ghost use Rattle.gm_model.specs.Serve.{ram_bytes};
 
 use gc_base::NoMemory;
 use gm_model::Packet;
+use gm_model::platform::RAM_BASE;
 use std::alloc::Global;
 use std::marker::Model;
 
-/// The address of RAM's first byte.
-const RAM_BASE: u64 = 0x8000_0000;
-
 /// The bytes of RAM. Contracts see the list of them.
 #[derive(Drop)]
-pub(crate) struct Ram {
+pub struct Ram {
     bytes: Vec<u8>,
 }
 

@@ -1,24 +1,25 @@
 // How RAM serves a request.
-ghost use Rattle.std.specs.Prelude.{◌≡◌, ◌≤◌, ◌<◌, ◌++◌, length, IsTrue};
+ghost use Rattle.std.specs.Prelude.{◌≡◌, ◌≤◌, []};
 ghost use Rattle.rv_step.specs.FlatMem.{in_ram};
 ghost use Rattle.gm_model.specs.ObjState.{Memory};
 ghost use Rattle.gm_model.specs.Serve.{serve_memory};
-ghost use Rattle.gm_model.specs.declared.cmd.Cmd.TheVariants.{Read, Write, WriteBack};
+ghost use Rattle.gm_model.specs.declared.cmd.Cmd.TheVariants.{Read, Write};
+ghost use Rattle.obj_core.specs.Out.{HasRoom, extended};
 
 use crate::ram::Ram;
 use gm_model::{Cmd, Packet};
 use obj_core::Outbox;
-use obj_server::{answer_read, answer_write, refuse};
+use obj_server::{ServedBy, answer_read, answer_write, refuse};
 
 impl Ram {
     /// Serves a request, and notes it.
     #[inline(always)]
-    pub(crate) fn serve(&mut self, p: &mut Packet, out: &mut Outbox)
+    pub(crate) fn serve_request(&mut self, p: &mut Packet, out: &mut Outbox)
         requires size { p.old.size ≤ 64 }
-        requires room { length out.old.entries < 528 }
+        requires room { HasRoom out.old }
         ensures device { Memory self.new ≡ (serve_memory self.old p.old p.old.cmd (in_ram self.old p.old.addr p.old.size)).device }
-        ensures packet { p.new ≡ (serve_memory self.old p.old p.old.cmd (in_ram self.old p.old.addr p.old.size)).response }
-        ensures noted { out.new ≡ record out.old { entries = out.old.entries ++ (serve_memory self.old p.old p.old.cmd (in_ram self.old p.old.addr p.old.size)).entries } }
+        ensures response { p.new ≡ (serve_memory self.old p.old p.old.cmd (in_ram self.old p.old.addr p.old.size)).response }
+        ensures noted { out.new ≡ extended out.old [] (serve_memory self.old p.old p.old.cmd (in_ram self.old p.old.addr p.old.size)).entries out.old.next }
     {
         let within = self.holds(p.addr, p.size);
         match p.cmd {
@@ -39,12 +40,12 @@ impl Ram {
         requires cmd { p.old.cmd ≡ Read }
         requires size { p.old.size ≤ 64 }
         requires within { within ≡ in_ram self.now p.old.addr p.old.size }
-        requires room { length out.old.entries < 528 }
-        ensures packet { p.new ≡ (serve_memory self.now p.old Read within).response }
-        ensures noted { out.new ≡ record out.old { entries = out.old.entries ++ (serve_memory self.now p.old Read within).entries } }
+        requires room { HasRoom out.old }
+        ensures response { p.new ≡ (serve_memory self.now p.old Read within).response }
+        ensures noted { out.new ≡ extended out.old [] (serve_memory self.now p.old Read within).entries out.old.next }
     {
         if within {
-            answer_read(p, self.bytes_at(p.addr, p.size), false, out);
+            answer_read(p, self.bytes_at(p.addr, p.size), ServedBy::Ram, out);
         } else {
             refuse(p, out);
         }
@@ -56,14 +57,14 @@ impl Ram {
         requires cmd { p.old.cmd ≡ Write }
         requires size { p.old.size ≤ 64 }
         requires within { within ≡ in_ram self.old p.old.addr p.old.size }
-        requires room { length out.old.entries < 528 }
+        requires room { HasRoom out.old }
         ensures device { Memory self.new ≡ (serve_memory self.old p.old Write within).device }
-        ensures packet { p.new ≡ (serve_memory self.old p.old Write within).response }
-        ensures noted { out.new ≡ record out.old { entries = out.old.entries ++ (serve_memory self.old p.old Write within).entries } }
+        ensures response { p.new ≡ (serve_memory self.old p.old Write within).response }
+        ensures noted { out.new ≡ extended out.old [] (serve_memory self.old p.old Write within).entries out.old.next }
     {
         if within {
             self.keep(p);
-            answer_write(p, false, out);
+            answer_write(p, ServedBy::Ram, out);
         } else {
             refuse(p, out);
         }

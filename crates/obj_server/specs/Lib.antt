@@ -1,2 +1,4 @@
-pub mod Own
+pub mod Device
+pub mod Served
+pub mod ServedBy
 pub mod Server

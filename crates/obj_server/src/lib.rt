@@ -1,13 +1,19 @@
-//! What all servers share: the fields of a server, and how a request is answered, refused and noted.
+//! The servers: a part that serves requests, whichever device it is that serves them.
 //!
-//! Its promise: a `Server` with its device shows the state of a server in `gm_model`, and an answer or a refusal is the
-//! response of its rule `Serve`, with the entry that is noted of it. Read `specs/Server.antt` first. A part has a `Server` as a
-//! field, beside its device. Left out is the queue of offers, whose place is `Server`.
+//! Its promise: each call of a `Served` part is the rule of a server in `gm_model`, on the state that it shows, if its `Device`
+//! keeps the device's rule. Read `specs/Device.antt` and `src/device.rt` first: a kind of server is made by an `impl Device`
+//! and nothing else. Left out is the queue of offers, whose place is `Server`.
 #![tactic(auto)]
 
+mod configured;
+mod device;
 mod note;
 mod reply;
+mod served;
+mod served_by;
 mod server;
 
+pub use device::{DEVICE_PLACES, Device, Start};
 pub use reply::{answer_read, answer_write, read_response, refuse};
-pub use server::{DEVICE_PLACES, Server};
+pub use served::Served;
+pub use served_by::ServedBy;

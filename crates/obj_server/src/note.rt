@@ -1,8 +1,11 @@
 // What a server notes of a request.
-ghost use Rattle.std.specs.Prelude.{◌≡◌, ◌≤◌, ◌<◌, ◌++◌, length, take, drop, replicate};
+ghost use Rattle.std.specs.Prelude.{◌≡◌, ◌≤◌, ◌++◌, [], take, drop, replicate};
 ghost use Rattle.gm_model.specs.Packet.{carried_bytes, is_write};
 ghost use Rattle.gm_model.specs.Serve.{served_entries, entry_bytes};
+ghost use Rattle.obj_core.specs.Out.{HasRoom, extended};
+ghost use Rattle.obj_server.specs.ServedBy.{is_device};
 
+use crate::served_by::ServedBy;
 use gm_model::{Cmd, Entry, Packet};
 use obj_core::Outbox;
 
@@ -49,12 +52,13 @@ fn writes(cmd: Cmd) -> bool
     }
 }
 
-/// Notes that a request with this command got this response, from RAM or from a device.
+/// Notes that a request with this command got this response, and who served it.
 #[inline(always)]
-pub(crate) fn note(cmd: Cmd, response: &Packet, device: bool, out: &mut Outbox)
+pub(crate) fn note(cmd: Cmd, response: &Packet, by: ServedBy, out: &mut Outbox)
     requires size { response.now.size ≤ 64 }
-    requires room { length out.old.entries < 528 }
-    ensures { out.new ≡ record out.old { entries = out.old.entries ++ served_entries (record response.now { cmd = cmd }) response.now device } }
+    requires room { HasRoom out.old }
+    ensures { out.new ≡ extended out.old []
+        (served_entries (record response.now { cmd = cmd }) response.now (is_device by)) out.old.next }
 {
     if response.src < NOTED_SOURCES {
         out.note(Entry::Served {
@@ -64,7 +68,7 @@ pub(crate) fn note(cmd: Cmd, response: &Packet, device: bool, out: &mut Outbox)
             addr: response.addr,
             size: response.size,
             bytes: noted_bytes(response),
-            device,
+            device: by.is_device(),
             fault: response.fault,
         });
     }

@@ -1,9 +1,12 @@
 // How a server answers or refuses a request.
-ghost use Rattle.std.specs.Prelude.{◌≡◌, ◌≤◌, ◌<◌, ◌++◌, length, true};
+ghost use Rattle.std.specs.Prelude.{◌≡◌, ◌≤◌, [], length, true};
 ghost use Rattle.gm_model.specs.Packet.{with_front, read_response as response_with, write_response, fault_response};
 ghost use Rattle.gm_model.specs.Serve.{served_entries};
+ghost use Rattle.obj_core.specs.Out.{HasRoom, extended};
+ghost use Rattle.obj_server.specs.ServedBy.{is_device};
 
 use crate::note::note;
+use crate::served_by::ServedBy;
 use gm_model::{Cmd, Packet};
 use obj_core::Outbox;
 
@@ -30,60 +33,41 @@ pub fn read_response(p: &mut Packet, bytes: &[u8])
     p.cmd = Cmd::ReadResp;
 }
 
-/// Answers a read with these bytes, and notes it as served by RAM or by a device.
+/// Answers a read with these bytes, and notes who served it.
 #[inline(always)]
-pub fn answer_read(p: &mut Packet, bytes: &[u8], device: bool, out: &mut Outbox)
+pub fn answer_read(p: &mut Packet, bytes: &[u8], by: ServedBy, out: &mut Outbox)
     requires size { p.old.size ≤ 64 }
     requires bytes { length bytes.now ≤ 64 }
-    requires room { length out.old.entries < 528 }
+    requires room { HasRoom out.old }
     ensures packet { p.new ≡ response_with p.old bytes.now }
-    ensures noted { out.new ≡ record out.old { entries = out.old.entries ++ served_entries p.old p.new device } }
+    ensures noted { out.new ≡ extended out.old [] (served_entries p.old p.new (is_device by)) out.old.next }
 {
     let cmd = p.cmd;
     read_response(p, bytes);
-    note(cmd, p, device, out);
+    note(cmd, p, by, out);
 }
 
-/// Answers a write, and notes it as served by RAM or by a device.
+/// Answers a write, and notes who served it.
 #[inline(always)]
-pub fn answer_write(p: &mut Packet, device: bool, out: &mut Outbox)
+pub fn answer_write(p: &mut Packet, by: ServedBy, out: &mut Outbox)
     requires size { p.old.size ≤ 64 }
-    requires room { length out.old.entries < 528 }
+    requires room { HasRoom out.old }
     ensures packet { p.new ≡ write_response p.old }
-    ensures noted { out.new ≡ record out.old { entries = out.old.entries ++ served_entries p.old p.new device } }
+    ensures noted { out.new ≡ extended out.old [] (served_entries p.old p.new (is_device by)) out.old.next }
 {
     let cmd = p.cmd;
     p.cmd = Cmd::WriteResp;
-    note(cmd, p, device, out);
-}
-
-/// Makes a request the response that refuses it: a read gets zeros, and what has no response stays.
-fn fail(p: &mut Packet)
-    requires { p.old.size ≤ 64 }
-    ensures { p.new ≡ fault_response p.old p.old.cmd }
-{
-    match p.cmd {
-        Cmd::Read => {
-            p.bytes[..p.size as usize].fill(0);
-            p.cmd = Cmd::ReadResp;
-            p.fault = true;
-        }
-        Cmd::Write => {
-            p.cmd = Cmd::WriteResp;
-            p.fault = true;
-        }
-        Cmd::WriteBack | Cmd::ReadResp | Cmd::WriteResp => {}
-    }
+    note(cmd, p, by, out);
 }
 
 /// Refuses a request by fault, as a device does, and notes it.
 pub fn refuse(p: &mut Packet, out: &mut Outbox)
     requires size { p.old.size ≤ 64 }
-    requires room { length out.old.entries < 528 }
+    requires room { HasRoom out.old }
     ensures packet { p.new ≡ fault_response p.old p.old.cmd }
-    ensures noted { out.new ≡ record out.old { entries = out.old.entries ++ served_entries p.old p.new true } }
+    ensures noted { out.new ≡ extended out.old [] (served_entries p.old p.new true) out.old.next }
 {
     let cmd = p.cmd;
-    fail(p);
-    note(cmd, p, true, out);
+    p.refuse();
+    note(cmd, p, ServedBy::Device, out);
 }

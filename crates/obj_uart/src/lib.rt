@@ -1,13 +1,14 @@
 //! The UART as a part of the machine: a server with eight registers of one byte each.
 //!
-//! Its promise: each call of `Uart` is the rule of a server whose device is `Uart`, on the state that it shows. What all
-//! servers share is in `obj_server`. Read `specs/Shown.antt` first, which says what state that is; the rule itself is
+//! Its promise: `UartDevice` is the device `Uart` of `gm_model`, so that each call of `Uart` is the rule of its server. What all
+//! servers share is in `obj_server`. Read `specs/State.antt` first, which says what state it shows; the rule itself is
 //! `specs/Serve.antt` of `gm_model`. Only `configure` takes memory: the places of the input.
 #![tactic(auto)]
 
-mod uart;
+mod device;
+mod serve;
 
-pub use uart::Uart;
+pub use device::{Uart, UartDevice};
 
 #[cfg(test)]
 mod tests;

@@ -1,0 +1,159 @@
+// What an instruction does in turn: its requests, and what their responses lead to.
+ghost use Rattle.std.specs.Prelude.{◌≡◌, ◌^◌, ◌≤◌, IsTrue, None};
+ghost use Rattle.ev_queue.specs.SlotTable.{gave};
+ghost use Rattle.rv_step.specs.Demand.{need as need_of};
+ghost use Rattle.rv_step.specs.Trap.{interrupt_cause};
+ghost use Rattle.gm_model.specs.AtomicCpuStep.{cpu_begins, cpu_fetched, cpu_accessed};
+ghost use Rattle.gm_model.specs.Platform.{is_in_ram};
+ghost use Rattle.obj_core.specs.Out.{HasRoom};
+ghost use Rattle.obj_core.specs.Step.{Takes};
+
+use crate::hart::demand;
+use crate::octets::number;
+use crate::packets;
+use crate::sequencer::Sequencer;
+use crate::stage::Stage;
+use ev_queue::EventQueue;
+use gc_base::limits::TOP;
+use gc_base::{PortNo, Tick};
+use gm_model::{Act, Packet};
+use obj_core::Outbox;
+use rv_step::{Arch, Demand, take};
+use rv_table::decode;
+
+/// The port of the fetches.
+const FETCH: PortNo = PortNo(0);
+
+/// The port of the data accesses.
+const DATA: PortNo = PortNo(1);
+
+// Causes of traps, by the privileged manual's "Machine Cause Register".
+const INSTRUCTION_ACCESS: u64 = 1;
+
+const LOAD_ACCESS: u64 = 5;
+
+const STORE_ACCESS: u64 = 7;
+
+impl Sequencer {
+    ghost use Rattle.gm_model.specs.ObjState.{AtomicCpu};
+    ghost use Rattle.cpu_atomic.specs.Shown.{cpu_state};
+
+    /// Between two instructions: an interrupt is entered, or the next instruction begins.
+    #[inline(always)]
+    pub(crate) fn begins(&mut self, a: &mut Arch, now: Tick, q: &mut EventQueue, out: &mut Outbox)
+        requires known { IsTrue (gave q.old.table self.old.object.0 0 50) }
+        requires room { HasRoom out.old }
+        requires tick { now ≤ TOP }
+        ensures { let before = cpu_state self.old (Some a.old) in
+            Takes (cpu_begins before a.old out.old.next now (interrupt_cause a.old) (is_in_ram self.old.ram a.old.pc 4))
+            (AtomicCpu before) (AtomicCpu (cpu_state self.new (Some a.new))) q.old q.new out.old out.new }
+    {
+        match take(a) {
+            Some(cause) => self.traps(a, self.end(now, 0), cause, 0, q, out),
+            None => self.fetches(a, now, q, out),
+        }
+    }
+
+    /// No interrupt is taken: the word at pc is fetched, or a fetch outside RAM traps.
+    #[inline(always)]
+    fn fetches(&mut self, a: &mut Arch, now: Tick, q: &mut EventQueue, out: &mut Outbox)
+        requires known { IsTrue (gave q.old.table self.old.object.0 0 50) }
+        requires room { HasRoom out.old }
+        requires tick { now ≤ TOP }
+        ensures { let before = cpu_state self.old (Some a.old) in
+            Takes (cpu_begins before a.old out.old.next now None (is_in_ram self.old.ram a.old.pc 4))
+            (AtomicCpu before) (AtomicCpu (cpu_state self.new (Some a.new))) q.old q.new out.old out.new }
+    {
+        if packets::in_ram(self.ram, a.pc, 4) {
+            self.stage = Stage::AwaitFetch;
+            let id = out.fresh();
+            out.push(Act::Atomic {
+                port: FETCH,
+                pkt: packets::fetch(id, a.pc),
+            });
+        } else {
+            let (at, pc) = (self.end(now, 0), a.pc);
+            self.traps(a, at, INSTRUCTION_ACCESS, pc, q, out);
+        }
+    }
+
+    /// The word was fetched, which took a latency: what it asks for decides.
+    #[inline(always)]
+    pub(crate) fn fetched(
+        &mut self,
+        a: &mut Arch,
+        now: Tick,
+        latency: u64,
+        word: u32,
+        q: &mut EventQueue,
+        out: &mut Outbox,
+    )
+        requires known { IsTrue (gave q.old.table self.old.object.0 0 50) }
+        requires room { HasRoom out.old }
+        requires tick { now ≤ TOP }
+        requires latency { latency ≤ 2 ^ 32 }
+        ensures { let before = cpu_state self.old (Some a.old) in
+            Takes (cpu_fetched before a.old out.old.next now latency word (need_of a.old word))
+            (AtomicCpu before) (AtomicCpu (cpu_state self.new (Some a.new))) q.old q.new out.old out.new }
+    {
+        let at = self.end(now, latency);
+        let inst = decode(word);
+        match demand(a, word, &inst) {
+            Demand::Nothing | Demand::Sleep => self.retires(a, at, word, &inst, 0, q, out),
+            Demand::Load { addr, size } => {
+                self.stage = Stage::AwaitData { word, latency };
+                let id = out.fresh();
+                out.push(Act::Atomic {
+                    port: DATA,
+                    pkt: packets::load(id, self.ram, addr, size),
+                });
+            }
+            Demand::Store { addr, size, value } => {
+                self.stage = Stage::AwaitData { word, latency };
+                let id = out.fresh();
+                out.push(Act::Atomic {
+                    port: DATA,
+                    pkt: packets::store(id, self.ram, addr, size, value),
+                });
+            }
+            Demand::Trap { cause, tval } => self.traps(a, at, cause, tval, q, out),
+        }
+    }
+
+    /// The data access of the word was served: it retires, or traps where the access was refused.
+    #[inline(always)]
+    pub(crate) fn accessed(
+        &mut self,
+        a: &mut Arch,
+        at: Tick,
+        p: &Packet,
+        word: u32,
+        q: &mut EventQueue,
+        out: &mut Outbox,
+    )
+        requires known { IsTrue (gave q.old.table self.old.object.0 0 50) }
+        requires room { HasRoom out.old }
+        ensures { let before = cpu_state self.old (Some a.old) in
+            Takes (cpu_accessed before a.old out.old.next at p.now word (need_of a.old word) p.now.fault)
+            (AtomicCpu before) (AtomicCpu (cpu_state self.new (Some a.new))) q.old q.new out.old out.new }
+    {
+        let inst = decode(word);
+        match demand(a, word, &inst) {
+            Demand::Load { addr, size } => {
+                if p.fault {
+                    self.traps(a, at, LOAD_ACCESS, addr, q, out);
+                } else {
+                    self.retires(a, at, word, &inst, number(&p.bytes, size), q, out);
+                }
+            }
+            Demand::Store { addr, .. } => {
+                if p.fault {
+                    self.traps(a, at, STORE_ACCESS, addr, q, out);
+                } else {
+                    self.retires(a, at, word, &inst, 0, q, out);
+                }
+            }
+            Demand::Nothing | Demand::Sleep | Demand::Trap { .. } => {}
+        }
+    }
+}

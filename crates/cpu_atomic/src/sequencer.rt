@@ -1,0 +1,81 @@
+// When the events of a CPU come that is configured, and what it keeps between them.
+ghost use Rattle.std.specs.Prelude.{◌≡◌, ◌+◌, ◌^◌, ◌≤◌, IsTrue, true};
+ghost use Rattle.ev_queue.specs.PendingList.{event, rescheduled};
+ghost use Rattle.ev_queue.specs.SlotTable.{gave};
+ghost use Rattle.gm_model.specs.HartLine.{next_multiple};
+ghost use Rattle.gc_base.specs.declared.limits.TheConstants.{PERIOD_MAX};
+ghost use Rattle.cpu_atomic.specs.Kept.{kept_latency};
+
+use crate::stage::Stage;
+use ev_queue::{EventHandle, EventQueue};
+use gc_base::limits::TOP;
+use gc_base::{ObjId, Tick};
+
+/// A configured CPU without its hart: it takes the hart through its instructions.
+#[derive(Drop)]
+pub struct Sequencer {
+    pub(crate) handle: EventHandle<50>,
+    pub(crate) object: ObjId,
+    pub(crate) line: u32,
+    pub(crate) ram: u32,
+    pub(crate) timing: bool,
+    pub(crate) draining: bool,
+    /// In ticks.
+    pub(crate) period: u32,
+    pub(crate) stage: Stage,
+    /// Whether its event is pending.
+    pub(crate) due: bool,
+    ghost owner: { handle.owner ≡ object.0 },
+    ghost slot: { handle.slot ≡ 0 },
+    ghost least: { 1 ≤ period },
+    ghost most: { period ≤ PERIOD_MAX },
+    ghost fetched: { kept_latency stage ≤ 2 ^ 32 },
+}
+
+/// The tick that comes so many ticks later.
+#[inline(always)]
+fn later(now: Tick, d: u64) -> Tick
+    requires now { now ≤ TOP }
+    requires far { d ≤ 2 ^ 34 }
+    ensures { result ≡ now + d }
+{
+    match now.after(d) {
+        Ok(tick) => tick,
+        Err(_) => now,
+    }
+}
+
+impl Sequencer {
+    /// The next multiple of the period.
+    #[tactic(auto, using(crate::proofs::Next::next_multiple_formula))]
+    pub(crate) fn next_period(&self, now: Tick) -> Tick
+        requires { now ≤ TOP }
+        ensures { result ≡ next_multiple self.now.period now }
+    {
+        now.next_multiple(self.period)
+    }
+
+    /// Its event comes at the next multiple of the period.
+    pub(crate) fn goes_on(&mut self, now: Tick, q: &mut EventQueue)
+        requires known { IsTrue (gave q.old.table self.old.object.0 0 50) }
+        requires tick { now ≤ TOP }
+        ensures due { self.new ≡ record self.old { due = true } }
+        ensures events { q.new ≡ record q.old {
+          pending =
+              rescheduled q.old.pending (event (next_multiple self.old.period now) 50 self.old.object.0 0);
+        } }
+    {
+        q.reschedule(&self.handle, self.next_period(now));
+        self.due = true;
+    }
+
+    /// The tick at which an instruction ends whose accesses took so long.
+    #[inline(always)]
+    pub(crate) fn end(&self, now: Tick, latency: u64) -> Tick
+        requires now { now ≤ TOP }
+        requires latency { latency ≤ 2 ^ 33 }
+        ensures { result ≡ now + self.now.period + latency }
+    {
+        later(now, self.period as u64 + latency)
+    }
+}
