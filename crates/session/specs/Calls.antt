@@ -8,7 +8,8 @@ use Rattle.gm_model.specs.declared.kind.Kind.{Kind}
 use Rattle.kernel.specs.Build.{lacking}
 use Rattle.rv_step.specs.Run.{flat_run}
 use Rattle.session.specs.Ending.{Ending, work_done, usage_refusal, store_refusal, memory_refusal, EndsBy}
-use Rattle.session.specs.Inputs.{HasConfig, ConfigStops, HasScript, ScriptStops, HasImage, ImageStops, HasProgram, SourceStops}
+use Rattle.session.specs.Inputs.{HasConfig, HasScript, HasImage, HasProgram}
+use Rattle.session.specs.Inputs.{ConfigStops, ScriptStops, ImageStops, SourceStops}
 use Rattle.session.specs.Outside.{StoreSeen, StoreFailed, SameStore, Outside}
 use Rattle.session.specs.Puts.{IsPut, IsPutCut}
 use Rattle.session.specs.Fetched.{Then}
@@ -44,7 +45,7 @@ RunComesTo q parts old new e =
     (λ stops. Then (ImageStops q.image c.system_ram old new) (HasImage q.image c.system_ram old.files)
     (λ image. MachineComesTo c stops image parts))) e
 
--- the file of a program is put; or the store fails at it, which leaves a part of it; or memory was not found, and nothing was put
+-- the file of a program is put; or the store fails at it, which leaves a part; or memory was not found, and nothing was put
 abbrev pub PutComesTo : List ℕ → List ℕ → StoreSeen → StoreSeen → Ending → Type 0
 PutComesTo name words old new e =
     (SameStore old new × (e ≡ memory_refusal))

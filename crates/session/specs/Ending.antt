@@ -39,8 +39,8 @@ store_refusal name = refusal status.Store (codes "store " ++ shown_name name ++ 
 abbrev pub memory_refusal : Ending
 memory_refusal = refusal status.Memory (codes "memory\n")
 
--- a call that comes to this ending leaves this status and these sinks: its own status, and all that it writes was taken; or a sink
--- failed, and a front of it was
+-- a call that comes to this ending leaves this status and these sinks: its own status, and all that it writes was taken;
+-- or a sink failed, and a front of it was
 abbrev pub Leaves : Ending → Status → Sinks → Sinks → Type 0
 Leaves e s old new =
     ((s ≡ e.status) × TakesAll e.emissions old new)
@@ -48,7 +48,8 @@ Leaves e s old new =
 
 -- the same of a call that has the report alone: the console stays as it is
 abbrev pub Refuses : Ending → Status → SinkSeen → SinkSeen → Type 0
-Refuses e s old new = (console : SinkSeen) → Leaves e s (record { console = console; report = old }) (record { console = console; report = new })
+Refuses e s old new = (console : SinkSeen)
+    → Leaves e s (record { console = console; report = old }) (record { console = console; report = new })
 
 -- a step comes to one of these endings, and says so
 abbrev pub StopsWith : (Ending → Type 0) → Status → SinkSeen → SinkSeen → Type 0

@@ -1,4 +1,4 @@
--- The files that a call reads: what they say, and how it ends at one that says nothing. Source: this project's own rule.
+-- The files that a call reads: what they say, and how it ends at a faulty one. Source: this project's own rule.
 use Rattle.std.specs.Prelude.{◌≡◌, ℕ, List, Option, Result, Ok, Err}
 use Rattle.cfg_tree.specs.Reading.{IsCause, ParsesConfig}
 use Rattle.cfg_tree.specs.declared.config.Config.{Config}
@@ -29,7 +29,8 @@ pub record HasConfig (name : List ℕ) (files : Option Files) (c : Config) : Typ
 -- it can't be had, or has a fault
 abbrev pub ConfigStops : List ℕ → StoreSeen → StoreSeen → Ending → Type 0
 ConfigStops name old new e =
-    FileLeadsTo name CONFIG_BYTES_MAX (λ bytes f. (fault : CfgFault) × IsCause bytes fault × (f ≡ config_refusal fault)) old new e
+    FileLeadsTo name CONFIG_BYTES_MAX
+    (λ bytes f. (fault : CfgFault) × IsCause bytes fault × (f ≡ config_refusal fault)) old new e
 
 -- the file is there and within its limit, and its lines say these stops
 pub record HasScript (name : List ℕ) (files : Option Files) (stops : List Stop) : Type 0 where
@@ -40,7 +41,8 @@ pub record HasScript (name : List ℕ) (files : Option Files) (stops : List Stop
 -- it can't be had, or a line is refused
 abbrev pub ScriptStops : List ℕ → StoreSeen → StoreSeen → Ending → Type 0
 ScriptStops name old new e =
-    FileLeadsTo name SCRIPT_BYTES_MAX (λ bytes f. (fault : ScriptFault) × TellsLine fault (stops_of bytes) × (f ≡ script_refusal fault)) old new e
+    FileLeadsTo name SCRIPT_BYTES_MAX
+    (λ bytes f. (fault : ScriptFault) × TellsLine fault (stops_of bytes) × (f ≡ script_refusal fault)) old new e
 
 -- the file is there and within its limit, and says this image, which RAM of so many bytes holds
 pub record HasImage (name : List ℕ) (ram : ℕ) (files : Option Files) (image : Image) : Type 0 where
@@ -56,7 +58,8 @@ IsImageFault fault (Err first) = fault ≡ first
 -- it can't be had, or has a fault
 abbrev pub ImageStops : List ℕ → ℕ → StoreSeen → StoreSeen → Ending → Type 0
 ImageStops name ram old new e =
-    FileLeadsTo name IMAGE_BYTES_MAX (λ bytes f. (fault : ElfFault) × IsImageFault fault (image_of bytes ram) × (f ≡ image_refusal fault)) old new e
+    FileLeadsTo name IMAGE_BYTES_MAX
+    (λ bytes f. (fault : ElfFault) × IsImageFault fault (image_of bytes ram) × (f ≡ image_refusal fault)) old new e
 
 -- the file is there and within its limit, and its lines assemble to these words
 pub record HasProgram (name : List ℕ) (files : Option Files) (words : List ℕ) : Type 0 where
@@ -67,4 +70,5 @@ pub record HasProgram (name : List ℕ) (files : Option Files) (words : List ℕ
 -- it can't be had, or a line is refused
 abbrev pub SourceStops : List ℕ → StoreSeen → StoreSeen → Ending → Type 0
 SourceStops name old new e =
-    FileLeadsTo name SOURCE_BYTES_MAX (λ bytes f. (fault : AsmFault) × Explains (source_words bytes) fault × (f ≡ source_refusal fault)) old new e
+    FileLeadsTo name SOURCE_BYTES_MAX
+    (λ bytes f. (fault : AsmFault) × Explains (source_words bytes) fault × (f ≡ source_refusal fault)) old new e

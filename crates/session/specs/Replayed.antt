@@ -25,7 +25,8 @@ ScriptsAreReplayed =
     → IsReplayedFrom (machine_start c image) (script_written c.system_budget (machine_start c image) stops)
 
 -- the words name a configuration, a script and an image in these files, and the parts make a machine
-pub record CarriesOut (words : List (List ℕ)) (files : Option Files) (parts : List ObjState) (c : Config) (stops : List Stop) (image : Image) : Type 0 where
+pub record CarriesOut (words : List (List ℕ)) (files : Option Files) (parts : List ObjState) (c : Config)
+    (stops : List Stop) (image : Image) : Type 0 where
   pub request : RunRequest
   pub asked : request_of words ≡ Some (Machine request)
   pub has_config : HasConfig request.config files c

@@ -25,7 +25,8 @@ fn load<R: Sink>(alloc: Global, image: &Image, report: &mut R) -> Result<FlatRun
     requires { All (LiesInRam FLAT_SIZE) image.now.pieces }
     ensures loaded { IfOk result (λ r. state_with r [] ≡ flat_start image.now) }
     ensures silent { OnOk result (report.new ≡ report.old) }
-    ensures refused { IfErr result (λ s. Refuses memory_refusal s (sink_seen R.Sink report.old) (sink_seen R.Sink report.new)) }
+    ensures refused { IfErr result (λ s. Refuses memory_refusal s
+        (sink_seen R.Sink report.old) (sink_seen R.Sink report.new)) }
 {
     match FlatRun::load(alloc, image) {
         Ok(run) => Ok(run),

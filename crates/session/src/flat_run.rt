@@ -86,8 +86,10 @@ impl FlatRun {
         requires on { is_over (state_with self.old []) ≡ false }
         requires room { self.old.steps < 2 ^ 64 - 1 }
         ensures count { self.new.steps ≡ self.old.steps + 1 }
-        ensures moved { (bytes : List ℕ) → next_state (state_with self.old bytes) ≡ state_with self.new (console_with bytes (flat_step self.old.arch self.old.ram).step.console) }
-        ensures emitted { Emits (option_to_list (flat_step self.old.arch self.old.ram).step.console) (is_ok result) (C.taken console.old) (C.taken console.new) (C.faults console.old) (C.faults console.new) }
+        ensures moved { (bytes : List ℕ) → next_state (state_with self.old bytes)
+            ≡ state_with self.new (console_with bytes (flat_step self.old.arch self.old.ram).step.console) }
+        ensures emitted { Emits (option_to_list (flat_step self.old.arch self.old.ram).step.console) (is_ok result)
+            (C.taken console.old) (C.taken console.new) (C.faults console.old) (C.faults console.new) }
     {
         let step = step_flat(&mut self.arch, &mut self.ram);
         self.steps += 1;
@@ -101,8 +103,10 @@ impl FlatRun {
     /// At most so many steps. A failed emit ends the run behind the step whose byte it was.
     pub fn run<C: Sink>(&mut self, console: &mut C, count: u64) -> Result<(), Failed>
         requires { self.old.steps ≡ 0 }
-        ensures state { OnOk result (state_with self.new (flat_run (state_with self.old []) count).console ≡ flat_run (state_with self.old []) count) }
-        ensures emitted { Emits (flat_run (state_with self.old []) count).console (is_ok result) (C.taken console.old) (C.taken console.new) (C.faults console.old) (C.faults console.new) }
+        ensures state { OnOk result (state_with self.new (flat_run (state_with self.old []) count).console
+            ≡ flat_run (state_with self.old []) count) }
+        ensures emitted { Emits (flat_run (state_with self.old []) count).console (is_ok result)
+            (C.taken console.old) (C.taken console.new) (C.faults console.old) (C.faults console.new) }
     {
         while self.steps < count && !self.is_over() {
             match self.step(console) {

@@ -5,7 +5,7 @@ ghost use Rattle.rv_step.specs.Run.{flat_run};
 ghost use Rattle.session.specs.Replayed.{ScriptsAreReplayed};
 ghost use Rattle.session.specs.Run.{flat_start};
 
-/// What the events of a script note is the instruction set's over flat memory, from the machine's start to where it ends.
+/// What the events of a script note is the instruction set's over flat memory, from the machine's start to its end.
 pub fn scripts_are_replayed()
     ensures { ScriptsAreReplayed }
 {}

@@ -109,8 +109,9 @@ fn perform<C: Sink, R: Sink>(
     requires in_ram { All (LiesInRam config.now.system_ram) image.now.pieces }
     requires aligned { image.now.entry % 4 ≡ 0 }
     requires few { length stops.now ≤ 256 }
-    ensures { EmitsInOrder (script_written config.now.system_budget (machine_start config.now image.now) stops.now).emissions
-        (is_ok result) (sinks C.Sink R.Sink console.old report.old) (sinks C.Sink R.Sink console.new report.new) }
+    ensures { EmitsInOrder
+        (script_written config.now.system_budget (machine_start config.now image.now) stops.now).emissions (is_ok result)
+        (sinks C.Sink R.Sink console.old report.old) (sinks C.Sink R.Sink console.new report.new) }
 {
     let mut machine = machine;
     machine.load_image(image);

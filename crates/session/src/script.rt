@@ -73,11 +73,14 @@ fn run<C: Sink, R: Sink>(
 ) -> Result<(), Failed>
     requires machine { IsSeen machine.old state }
     requires events { (sys_seen machine.old state).counts.events + budget < 2 ^ 55 }
-    ensures sys { OnOk result (sys_seen machine.new state ≡ (stop_written budget (sys_seen machine.old state) (Run until)).sys) }
-    ensures emitted { EmitsInOrder (stop_written budget (sys_seen machine.old state) (Run until)).emissions (is_ok result)
+    ensures sys { OnOk result
+        (sys_seen machine.new state ≡ (stop_written budget (sys_seen machine.old state) (Run until)).sys) }
+    ensures emitted { EmitsInOrder
+        (stop_written budget (sys_seen machine.old state) (Run until)).emissions (is_ok result)
         (sinks C.Sink R.Sink console.old report.old) (sinks C.Sink R.Sink console.new report.new) }
     ensures machine { OnOk result (IsSeen machine.new state) }
-    ensures counted { OnOk result ((sys_seen machine.new state).counts.events ≤ (sys_seen machine.old state).counts.events + budget) }
+    ensures counted { OnOk result
+        ((sys_seen machine.new state).counts.events ≤ (sys_seen machine.old state).counts.events + budget) }
 {
     match machine.run(Goal { until, budget }, console, report) {
         Ok(end) => say(run_line(&end, machine.now()).bytes(), report),
@@ -95,11 +98,13 @@ fn stop<C: Sink, R: Sink>(
 ) -> Result<(), Failed>
     requires machine { IsSeen machine.old state }
     requires events { (sys_seen machine.old state).counts.events + budget < 2 ^ 55 }
-    ensures sys { OnOk result (sys_seen machine.new state ≡ (stop_written budget (sys_seen machine.old state) stop.now).sys) }
+    ensures sys { OnOk result
+        (sys_seen machine.new state ≡ (stop_written budget (sys_seen machine.old state) stop.now).sys) }
     ensures emitted { EmitsInOrder (stop_written budget (sys_seen machine.old state) stop.now).emissions (is_ok result)
         (sinks C.Sink R.Sink console.old report.old) (sinks C.Sink R.Sink console.new report.new) }
     ensures machine { OnOk result (IsSeen machine.new state) }
-    ensures counted { OnOk result ((sys_seen machine.new state).counts.events ≤ (sys_seen machine.old state).counts.events + budget) }
+    ensures counted { OnOk result
+        ((sys_seen machine.new state).counts.events ≤ (sys_seen machine.old state).counts.events + budget) }
 {
     match stop {
         Stop::Run(until) => run(machine, *until, budget, console, report),

@@ -47,8 +47,8 @@ fn perform<S: Store, C: Sink, R: Sink>(
     }
 }
 
-/// Does all that the program does: the words after its name, the files, and what it writes. The answer is the status of
-/// the process.
+/// Does all that the program does: the words after its name, the files, and what it writes. The answer is the status
+/// of the process.
 ///
 /// - `flat IMAGE COUNT` runs the image over flat memory, for at most COUNT steps.
 /// - `run CONFIG IMAGE SCRIPT` builds the machine of the configuration out of `bin`, loads the image, and carries out the
@@ -64,8 +64,8 @@ pub fn gemcore<S: Store, C: Sink, R: Sink>(
 ) -> u8
     requires blank { AreBlank (map (λ b. state b) bin.items) }
 
-    // The answer is the number of a status, and at that status the call has come to an ending of its words: the steps before it
-    // went well by what is in the files, and the console and the report took what the ending says, or, where one failed, a front.
+    // The answer is the number of a status, and the call has then come to an ending of its words: the steps before it
+    // went well by what is in the files, and the sinks took what the ending writes, or, where one failed, a front of it.
     ensures ends { (s : Status) → result ≡ code_of s
         → EndsAs s (map string_bytes words.now) (map (λ b. state b) bin.items)
         (outside S.Store C.Sink R.Sink store.old console.old report.old)
@@ -78,8 +78,8 @@ pub fn gemcore<S: Store, C: Sink, R: Sink>(
     ensures puts { (s : Status) → result ≡ code_of s
         → Puts s (map string_bytes words.now) (store_seen S.Store store.old) (store_seen S.Store store.new) }
 
-    // Where the call carries out a script, what its events noted is the instruction set's over flat memory, from its machine's
-    // start to its end.
+    // Where the call carries out a script, what its events noted is the instruction set's over flat memory, from its
+    // machine's start to its end.
     ensures replay { ReplaysScript (map string_bytes words.now) (S.files store.old) (map (λ b. state b) bin.items) }
 {
     status_of(perform(alloc, words, bin, store, console, report)).code()
