@@ -109,10 +109,7 @@ impl FlatRun {
             (C.taken console.old) (C.taken console.new) (C.faults console.old) (C.faults console.new) }
     {
         while self.steps < count && !self.is_over() {
-            match self.step(console) {
-                Ok(()) => {}
-                Err(e) => return Err(e),
-            }
+            self.step(console)?;
         }
         Ok(())
     }

@@ -2,6 +2,7 @@ use Rattle.std.proofs.Common.{◌≡◌, [], true, sym, ◌∙◌, subst, arith}
 use Rattle.rv_step.specs.Run.{FlatState, flat_run}
 use Rattle.gc_outside.specs.Emits.{Emits}
 use Rattle.session.specs.Run.{state_with}
+use Rattle.session.proofs.EmissionLemmas.{not_ok}
 use Rattle.session.proofs.RunLemmas.{follows-start, follows-step, follows-cut, follows-over}
 use Rattle.session.proofs.flat_run.FlatRun.run.Goals as goal
 
@@ -9,17 +10,18 @@ pub loop-self-init : goal.loop-self-init
 loop-self-init g c = (omega arith, follows-start c.args.self.now _ _ c.requires)
 
 pub loop-self-smaller : goal.loop-self-smaller
-loop-self-smaller g c = omega (arith, c.in-Ok.ensures.count)
+loop-self-smaller g c = omega (arith, c.in_ok-step.ensures.count)
 
 pub loop-self-preserved : goal.loop-self-preserved
 loop-self-preserved g c = (
-  omega (arith, c.in-Ok.ensures.count),
-  follows-step _ _ _ _ _ _ _ _ _ _ c.loop-self.invariant.1 c.in-Ok.ensures.count c.in-Ok.ensures.moved c.in-Ok.ensures.emitted,
+  omega (arith, c.in_ok-step.ensures.count),
+  follows-step _ _ _ _ _ _ _ _ _ _ c.loop-self.invariant.1 c.in_ok-step.ensures.count c.in_ok-step.ensures.moved c.in_ok-step.ensures.emitted,
 )
 
-pub returns-in-Err-clause-emitted : goal.returns-in-Err-clause-emitted
-returns-in-Err-clause-emitted g c =
-    follows-cut _ _ _ _ _ _ _ _ _ _ _ c.loop-self.invariant.1 (omega arith) c.in-Err.ensures.count c.in-Err.ensures.moved c.in-Err.ensures.emitted
+pub returns-in_err-step-clause-emitted : goal.returns-in_err-step-clause-emitted
+returns-in_err-step-clause-emitted g c =
+    rw (not_ok c.from_residual.result c.from_residual.ensures.0)
+    (follows-cut _ _ _ _ _ _ _ _ _ _ _ c.loop-self.invariant.1 (omega arith) c.in_err-step.ensures.count c.in_err-step.ensures.moved c.in_err-step.ensures.emitted)
 
 pub returns-else-not-is_over-clause-state : goal.returns-else-not-is_over-clause-state
 returns-else-not-is_over-clause-state g c =
