@@ -1,8 +1,12 @@
+pub mod EmissionLemmas
+pub mod FetchLemmas
+pub mod CallLemmas
 pub mod RunLemmas
-pub mod LeavesLemmas
-pub mod EndsLemmas
-pub mod ScriptLemmas
-pub mod MachineLemmas
-pub mod ReplayLemmas
+pub mod StepLemmas
 pub mod PutLemmas
 pub mod SourceLemmas
+pub mod StopLemmas
+pub mod ScriptLemmas
+pub mod EndsLemmas
+pub mod ImageLemmas
+pub mod ReplayLemmas

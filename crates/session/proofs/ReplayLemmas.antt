@@ -1,5 +1,5 @@
 -- What a script's events note, replayed from the machine's start.
-use Rattle.std.proofs.Common.{◌≡◌, ℕ, zero, suc, refl, sym, ap, ◌∙◌, subst, false, All, List, [], ◌∷◌, slice_get, Option, Some, None}
+use Rattle.std.proofs.Common.{rules, ◌≡◌, ℕ, zero, suc, refl, sym, ap, ◌∙◌, subst, false, All, List, [], ◌∷◌, slice_get, Option, Some, None}
 use Rattle.ev_queue.specs.declared.due.Due.{Due}
 use Rattle.ev_queue.specs.PendingList.{first}
 use Rattle.cfg_tree.specs.declared.config.Config.{Config}
@@ -21,7 +21,11 @@ use Rattle.gm_model.specs.declared.wake.Wake.TheVariants as wakes
 use Rattle.gm_model.proofs.ReplayLemmas.{replay-append}
 use Rattle.gm_model.proofs.ReplayRuns.{runs_replayed}
 use Rattle.gm_model.proofs.RunEnds.{runs_end}
-use Rattle.session.specs.Replayed.{ScriptsAreReplayed}
+use Rattle.gc_outside.specs.Store.{Files}
+use Rattle.gm_model.specs.ObjState.{ObjState}
+use Rattle.kernel.specs.Build.{lacking}
+use Rattle.session.specs.Replayed.{ScriptsAreReplayed, ReplaysScript}
+use Rattle.session.proofs.ImageLemmas.{image_in_ram}
 use Rattle.session.specs.Script.{Written, stop_written, script_written, machine_start}
 use Rattle.stop_script.specs.declared.stop.Stop.{Stop}
 use Rattle.stop_script.specs.declared.stop.Stop.TheVariants as stops
@@ -99,4 +103,12 @@ start_atomic : (c : Config) (image : Image) → c.system_model ≡ false → All
 start_atomic c image e fits = runs_replayed.start c image.entry (ram_of image c.system_ram) e (length-ram_of image c.system_ram fits)
 
 pub scripts_replayed : ScriptsAreReplayed
-scripts_replayed c image xs v e fits = (script_replayed c.system_budget (machine_start c image) xs (start_atomic c image e fits)).replays
+scripts_replayed c image xs e fits = (script_replayed c.system_budget (machine_start c image) xs (start_atomic c image e fits)).replays
+
+-- a machine that can be built is one in atomic mode
+mode_of : (c : Config) (parts : List ObjState) → lacking c parts ≡ None → c.system_model ≡ false
+mode_of c parts h = search rules
+
+pub script_replays : (words : List (List ℕ)) (files : Option Files) (parts : List ObjState) → ReplaysScript words files parts
+script_replays words files parts c stops image k =
+    scripts_replayed c image stops (mode_of c parts k.built) (image_in_ram k.has_image.bytes c.system_ram image k.has_image.says)

@@ -10,7 +10,7 @@ use Rattle.rv_step.specs.Arch.{reset}
 use Rattle.rv_step.specs.FlatMem.{zeroed}
 use Rattle.rv_step.specs.declared.arch.Arch.{Arch}
 use Rattle.session.specs.Run.{state_with, flat_size, flat_start}
-use Rattle.session.specs.declared.run.FlatRun.{FlatRun}
+use Rattle.session.specs.declared.flat_run.FlatRun.{FlatRun}
 use Rattle.gc_outside.proofs.Emissions.{emits_nothing, emits_then, emits_cut}
 
 -- the run has followed the rules from its start, and its console took what they write

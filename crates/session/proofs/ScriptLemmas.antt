@@ -1,25 +1,30 @@
 -- What a machine has written while it carries out a script.
-use Rattle.std.proofs.Common.{◌≡◌, ℕ, suc, zero, ◌+◌, ◌-◌, ◌<◌, ◌≤◌, ◌⊎◌, inl, inr, ◌++◌, refl, sym, ◌∙◌, ap, subst, arith, add-one, append_assoc, append-nil, List, [], ◌∷◌, length, drop, get_or, Option, Some, None, IsSome}
+use Rattle.std.proofs.Common.{◌≡◌, ℕ, suc, zero, ◌+◌, ◌-◌, ◌<◌, ◌≤◌, ◌⊎◌, inl, inr, ◌++◌, refl, sym, ◌∙◌, ap, subst, arith, add-one, append_assoc, append-nil, List, [], ◌∷◌, length, drop, get_or, Option, Some, None, IsSome, Bool, true, false}
 use Rattle.std.proofs.Math.ListN.{drop_of_length-le}
 use Rattle.std.proofs.Math.Seq.{drop-cons}
 use Rattle.std.proofs.lemmas.Bool.{cases_lt}
 use Rattle.gc_outside.specs.Told.{Told}
+use Rattle.gc_outside.specs.Emits.{Emits}
 use Rattle.gc_outside.specs.Sink.{Appends, AppendsFront}
-use Rattle.gc_outside.proofs.Outputs.{told_appends, told_appends_front, told_appends_nothing, told_front_of_more, told_whole_is_front}
+use Rattle.gc_outside.proofs.Outputs.{told_front_of_more}
 use Rattle.ev_queue.specs.declared.due.Due.{Due}
 use Rattle.ev_queue.specs.PendingList.{first}
 use Rattle.gm_model.specs.Sys.{Sys}
 use Rattle.gm_model.specs.Fire.{Ran, fire_first, fire_due, timed_run}
-use Rattle.gm_model.specs.Run.{RunEnd, EndsRun, run_to, console_of}
+use Rattle.gm_model.specs.Run.{RunEnd, EndsRun, run_to, retired_in, console_of}
 use Rattle.gm_model.specs.declared.entry.Entry.{Entry}
 use Rattle.gm_model.specs.declared.goal.Goal.{Goal}
 use Rattle.gm_model.proofs.ConsoleBytes.{console-append}
 use Rattle.gm_model.proofs.RunEnds.{runs_end, budget_ends}
 use Rattle.kernel.proofs.Runs.{events_more, stopped_bytes}
-use Rattle.kernel.specs.Ends.{StopsAtByte, TellsEnd}
+use Rattle.kernel.specs.Ends.{StopsAtByte, TellsEnd, IsFaultOf}
 use Rattle.kernel.specs.declared.run_end.RunEnd.{RunEnd as ToldEnd}
+use Rattle.kernel.specs.declared.run_end.RunFault.{RunFault}
+use Rattle.kernel.specs.declared.run_end.RunFault.TheVariants as faults
+use Rattle.session.specs.Emissions.{Emission, ToConsole, ToReport, SinkFailed, EmitsInOrder}
+use Rattle.session.specs.Outside.{SinkSeen, Sinks}
+use Rattle.session.proofs.EmissionLemmas.{front_console, front_more, order_nothing, order_then, order_cut, order_console, order_report}
 use Rattle.session.specs.Script.{Written, run_line, run_written, then_written, stop_written, script_written}
-use Rattle.session.specs.Sinks.{IsWhole, IsFront}
 use Rattle.stop_script.specs.declared.stop.Stop.{Stop}
 
 -- a run of fewer events notes a front of what one of more events notes
@@ -77,23 +82,23 @@ stopped_front s g t noted a b h =
     subst Q (sym bytes) (told_front_of_more (console_of (timed_run s k).entries) (console_of more.0) a b (stopped_bytes s g t noted a b h))
 
 -- so far these stops were carried out
-pub record HasDone (budget : ℕ) (start : Sys) (stops : List Stop) (i : ℕ) (now : Sys) (c c' r r' : Option (List ℕ)) : Type 0 where
+pub record HasDone (budget : ℕ) (start : Sys) (stops : List Stop) (i : ℕ) (now : Sys) (old new : Sinks) : Type 0 where
   pub done : Written
   pub same : script_written budget start stops ≡ then_written done (script_written budget now (drop i stops))
-  pub wrote : IsWhole done c c' r r'
+  pub emitted : EmitsInOrder done.emissions true old new
 
 then_assoc : (a b c : Written) → then_written (then_written a b) c ≡ then_written a (then_written b c)
-then_assoc a b c = rw (append_assoc a.console b.console c.console, append_assoc a.report b.report c.report, append_assoc a.history b.history c.history) refl
+then_assoc a b c = rw (append_assoc a.emissions b.emissions c.emissions, append_assoc a.history b.history c.history) refl
 
-module _ (budget : ℕ) (start : Sys) (stops : List Stop) (c r : Option (List ℕ)) where
-  pub done_start : HasDone budget start stops 0 start c c r r
+module _ (budget : ℕ) (start : Sys) (stops : List Stop) (old : Sinks) where
+  pub done_start : HasDone budget start stops 0 start old old
   done_start = record {
-    done = record { sys = start; console = []; report = []; history = [] };
+    done = record { sys = start; emissions = []; history = [] };
     same = refl;
-    wrote = record { bytes = told_appends_nothing c; lines = told_appends_nothing r };
+    emitted = order_nothing old;
   }
 
-  module _ (i : ℕ) (now : Sys) (x d : Stop) (c' r' : Option (List ℕ)) (here : i < length stops) (is : x ≡ get_or stops i d) (h : HasDone budget start stops i now c c' r r') where
+  module _ (i : ℕ) (now : Sys) (x d : Stop) (mid : Sinks) (here : i < length stops) (is : x ≡ get_or stops i d) (h : HasDone budget start stops i now old mid) where
     next : drop i stops ≡ x ∷ drop (i + 1) stops
     next = rw add-one (drop-cons stops i d here ∙ ap (λ y. y ∷ drop (suc i) stops) (sym is))
 
@@ -101,48 +106,68 @@ module _ (budget : ℕ) (start : Sys) (stops : List Stop) (c r : Option (List �
     unfolding script_written
     split = (let P : List Stop → Type 0 = λ ys. script_written budget start stops ≡ then_written h.done (script_written budget now ys) in subst P next h.same)
 
-    pub done_more : (now' : Sys) (c'' r'' : Option (List ℕ)) → now' ≡ (stop_written budget now x).sys → IsWhole (stop_written budget now x) c' c'' r' r''
-        → HasDone budget start stops (i + 1) now' c c'' r r''
-    done_more now' c'' r'' e k = record {
+    pub done_more : (now' : Sys) (new : Sinks) → now' ≡ (stop_written budget now x).sys → EmitsInOrder (stop_written budget now x).emissions true mid new
+        → HasDone budget start stops (i + 1) now' old new
+    done_more now' new e k = record {
       done = then_written h.done (stop_written budget now x);
       same = rw e (split ∙ sym (then_assoc h.done (stop_written budget now x) (script_written budget (stop_written budget now x).sys (drop (i + 1) stops))));
-      wrote = record {
-        bytes = told_appends h.done.console (stop_written budget now x).console c c' c'' h.wrote.bytes k.bytes;
-        lines = told_appends h.done.report (stop_written budget now x).report r r' r'' h.wrote.lines k.lines;
-      };
+      emitted = order_then h.done.emissions (stop_written budget now x).emissions true old mid new h.emitted k;
     }
 
-    pub done_cut : (c'' r'' : Option (List ℕ)) → IsFront (stop_written budget now x) c' c'' r' r'' → IsFront (script_written budget start stops) c c'' r r''
-    done_cut c'' r'' k =
+    pub done_cut : (new : Sinks) → EmitsInOrder (stop_written budget now x).emissions false mid new → EmitsInOrder (script_written budget start stops).emissions false old new
+    done_cut new k =
         let rest : Written = script_written budget (stop_written budget now x).sys (drop (i + 1) stops) in
-        rw split (record {
-          bytes = told_appends_front h.done.console ((stop_written budget now x).console ++ rest.console) c c' c'' h.wrote.bytes
-              (told_front_of_more (stop_written budget now x).console rest.console c' c'' k.bytes);
-          lines = told_appends_front h.done.report ((stop_written budget now x).report ++ rest.report) r r' r'' h.wrote.lines
-              (told_front_of_more (stop_written budget now x).report rest.report r' r'' k.lines);
-        })
+        let P : List Emission → Type 0 = λ es. EmitsInOrder es false old new in
+        subst P (sym (ap (λ w. w.emissions) split))
+        (order_then h.done.emissions ((stop_written budget now x).emissions ++ rest.emissions) false old mid new h.emitted
+        (order_cut (stop_written budget now x).emissions rest.emissions mid new k))
 
-  pub done_all : (i : ℕ) (now : Sys) (c' r' : Option (List ℕ)) → length stops ≤ i → HasDone budget start stops i now c c' r r' → IsWhole (script_written budget start stops) c c' r r'
+  pub done_all : (i : ℕ) (now : Sys) (new : Sinks) → length stops ≤ i → HasDone budget start stops i now old new → EmitsInOrder (script_written budget start stops).emissions true old new
   unfolding script_written
-  done_all i now c' r' l h =
+  done_all i now new l h =
       let P : List Stop → Type 0 = λ ys. script_written budget start stops ≡ then_written h.done (script_written budget now ys) in
       let all = subst P (drop_of_length-le stops l) h.same in
-      rw all (record { bytes = rw (append-nil h.done.console) h.wrote.bytes; lines = rw (append-nil h.done.report) h.wrote.lines })
+      let Q : List Emission → Type 0 = λ es. EmitsInOrder es true old new in
+      subst Q (sym (ap (λ w. w.emissions) all ∙ append-nil h.done.emissions)) h.emitted
 
 -- the line of a run, as it is told
-pub run_text : (told : ToldEnd) (r : RunEnd) (tick : ℕ) → TellsEnd told r → tick ≡ r.ran.sys.tick → run_line told.reason tick told.insts told.events ≡ (run_written r).report
+pub run_text : (told : ToldEnd) (r : RunEnd) (tick : ℕ) → TellsEnd told r → tick ≡ r.ran.sys.tick
+    → run_line told.reason tick told.insts told.events ≡ run_line r.reason r.ran.sys.tick (retired_in r.ran.entries) r.events
 run_text told r tick e t = rw (e.reason, t, e.insts, e.events) refl
 
--- a line that is cut
-pub cut_line : (w : Written) (text : List ℕ) (c c' r r' r'' : Option (List ℕ)) → Told (Appends w.console) c c' → text ≡ w.report → r' ≡ r
-    → Told (AppendsFront text) r' r'' → IsFront w c c' r r''
-cut_line w text c c' r r' r'' b t e h =
-    let P : Option (List ℕ) → Type 0 = λ o. Told (AppendsFront text) o r'' in
-    let Q : List ℕ → Type 0 = λ xs. Told (AppendsFront xs) r r'' in
-    record { bytes = told_whole_is_front w.console c c' b; lines = subst Q t (subst P e h) }
+-- a run that ended: the console took its bytes, and its line is emitted
+pub ran_emits : (r : RunEnd) (text : List ℕ) (ok : Bool) (c c' s s' s'' : SinkSeen) → text ≡ run_line r.reason r.ran.sys.tick (retired_in r.ran.entries) r.events
+    → Told (Appends (console_of r.ran.entries)) c.taken c'.taken → c.faults ≤ c'.faults → s' ≡ s
+    → Emits text ok s'.taken s''.taken s'.faults s''.faults
+    → EmitsInOrder (run_written r).emissions ok (record { console = c; report = s }) (record { console = c'; report = s'' })
+ran_emits r text ok c c' s s' s'' t took count same said =
+    let bytes : Emits (console_of r.ran.entries) true c.taken c'.taken c.faults c'.faults = record {
+      whole = λ e. took;
+      front = λ e. absurd (cc);
+      cause = λ e. absurd (cc);
+      count = count;
+    } in
+    let P : SinkSeen → Type 0 = λ x. Emits text ok x.taken s''.taken x.faults s''.faults in
+    let Q : List ℕ → Type 0 = λ l. Emits l ok s.taken s''.taken s.faults s''.faults in
+    order_then (ToConsole (console_of r.ran.entries) ∷ []) (ToReport (run_line r.reason r.ran.sys.tick (retired_in r.ran.entries) r.events) ∷ []) ok _ _ _
+    (order_console (console_of r.ran.entries) true c c' bytes s) (order_report _ ok s s'' (subst Q t (subst P same said)) c')
 
--- nothing of a report is a front of it
-pub cut_bytes : (w : Written) (c c' r r' : Option (List ℕ)) → Told (AppendsFront w.console) c c' → r' ≡ r → IsFront w c c' r r'
-cut_bytes w c c' r r' b e =
-    let P : Option (List ℕ) → Type 0 = λ o. Told (AppendsFront w.report) r o in
-    record { bytes = b; lines = subst P (sym e) (told_front_of_more [] w.report r r (told_whole_is_front [] r r (told_appends_nothing r))) }
+failed_by : (f : RunFault) (old new : Sinks) → IsFaultOf f old.console.faults new.console.faults old.report.faults new.report.faults → SinkFailed old new
+failed_by faults.Console old new h = inl h
+failed_by faults.Report old new h = inr h
+
+-- a run in which the console failed: it took a front of the run's bytes, and the report nothing
+pub cut_emits : (r : RunEnd) (f : RunFault) (c c' s s' : SinkSeen) → Told (AppendsFront (console_of r.ran.entries)) c.taken c'.taken
+    → IsFaultOf f c.faults c'.faults s.faults s'.faults → c.faults ≤ c'.faults → s' ≡ s
+    → EmitsInOrder (run_written r).emissions false (record { console = c; report = s }) (record { console = c'; report = s' })
+cut_emits r f c c' s s' front cause count same =
+    let P : SinkSeen → Type 0 = λ x. IsFaultOf f c.faults c'.faults s.faults x.faults in
+    let k : EmitsInOrder (run_written r).emissions false (record { console = c; report = s }) (record { console = c'; report = s }) = record {
+      all = λ e. absurd (cc);
+      front = λ e. front_more (ToConsole (console_of r.ran.entries) ∷ []) _ (record { console = c; report = s }) (record { console = c'; report = s }) (front_console (console_of r.ran.entries) c c' front s);
+      cause = λ e. failed_by f (record { console = c; report = s }) (record { console = c'; report = s }) (subst P same cause);
+      console_count = count;
+      report_count = omega arith;
+    } in
+    let Q : SinkSeen → Type 0 = λ x. EmitsInOrder (run_written r).emissions false (record { console = c; report = s }) (record { console = c'; report = x }) in
+    subst Q (sym same) k

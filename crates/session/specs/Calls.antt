@@ -1,134 +1,70 @@
--- What words and files call for. Source: this project's own rule.
-use Rattle.std.specs.Prelude.{◌≡◌, ℕ, ◌<◌, ◌≤◌, ◌⊎◌, List, [], ◌++◌, length, Option, Some, None, Result, Ok, Err, codes, decimal}
-use Rattle.cfg_tree.specs.Reading.{IsCause, ParsesConfig}
+-- What the words of a call come to: each step stops the call, or leads to the next. Source: this project's own rule.
+use Rattle.std.specs.Prelude.{◌≡◌, ℕ, ◌⊎◌, List, [], Option, Some, None}
 use Rattle.cfg_tree.specs.declared.config.Config.{Config}
-use Rattle.cfg_tree.specs.declared.fault.CfgFault.{CfgFault}
-use Rattle.cfg_tree.specs.declared.fault.CfgFault.TheVariants as faults
-use Rattle.elf_image.specs.Image.{image_of}
-use Rattle.elf_image.specs.declared.fault.ElfFault.{ElfFault}
+use Rattle.elf_image.specs.Written.{elf_bytes}
 use Rattle.elf_image.specs.declared.image.Image.{Image}
-use Rattle.gc_outside.specs.Store.{Files}
-use Rattle.gm_model.specs.Kind.{kind_name}
 use Rattle.gm_model.specs.ObjState.{ObjState}
 use Rattle.gm_model.specs.declared.kind.Kind.{Kind}
 use Rattle.kernel.specs.Build.{lacking}
-use Rattle.session.specs.Ending.{Ending, refusal, usage_ending, file_ending, image_limit, image_text}
-use Rattle.session.specs.Names.{shown_name}
-use Rattle.session.specs.Script.{Written, script_written, machine_start}
-use Rattle.session.specs.Sources.{source_limit, source_words, source_line_text}
-use Rattle.session.specs.Words.{Request, Flat, Machine, Assembly, RunRequest, AssemblyRequest, request_of}
-use Rattle.session.specs.declared.status.Status.TheVariants as status
-use Rattle.rv_asm.specs.declared.fault.AsmFault.{AsmFault}
-use Rattle.stop_script.specs.Script.{stops_of}
+use Rattle.rv_step.specs.Run.{flat_run}
+use Rattle.session.specs.Ending.{Ending, work_done, usage_refusal, store_refusal, memory_refusal, EndsBy}
+use Rattle.session.specs.Inputs.{HasConfig, HasScript, HasImage, HasProgram}
+use Rattle.session.specs.Inputs.{ConfigStops, ScriptStops, ImageStops, SourceStops}
+use Rattle.session.specs.Outside.{StoreSeen, StoreFailed, SameStore, Outside}
+use Rattle.session.specs.Puts.{IsPut, IsPutCut}
+use Rattle.session.specs.Fetched.{Then}
+use Rattle.session.specs.Refusals.{part_refusal}
+use Rattle.session.specs.Report.{flat_emissions}
+use Rattle.session.specs.Run.{flat_size, flat_start}
+use Rattle.session.specs.Script.{script_written, machine_start}
+use Rattle.session.specs.Words.{Request, Flat, Machine, Assembly, FlatRequest, RunRequest, AssemblyRequest, request_of}
+use Rattle.session.specs.declared.status.Status.{Status}
 use Rattle.stop_script.specs.declared.stop.Stop.{Stop}
 
--- the longest files of a configuration and of a script, in bytes
-abbrev pub text_limit : ℕ
-text_limit = 65536
+-- `flat`: the image is had, and runs over flat memory, if there is memory for that
+abbrev pub FlatComesTo : FlatRequest → StoreSeen → StoreSeen → Ending → Type 0
+FlatComesTo q old new e =
+    Then (ImageStops q.image flat_size old new) (HasImage q.image flat_size old.files)
+    (λ image f. (f ≡ memory_refusal) ⊎ (f ≡ work_done (flat_emissions (flat_run (flat_start image) q.count)))) e
 
--- the file of this name is this one, or is absent, where the store tells its files
-abbrev pub IsFileOf : Option Files → List ℕ → Option (List ℕ) → Type 0
-IsFileOf None name file = Unit {0}
-IsFileOf (Some files) name file = file ≡ files name
+-- the machine can't be built: there are too few parts of a kind, or memory was not found
+abbrev pub BuildStops : Config → List ObjState → Ending → Type 0
+BuildStops c parts e = (e ≡ memory_refusal) ⊎ ((kind : Kind) × (lacking c parts ≡ Some kind) × (e ≡ part_refusal kind))
 
--- what a file calls for: it is absent, or longer than it may be, or its bytes call for it
-abbrev pub FileCallsFor : List ℕ → ℕ → Option (List ℕ) → (List ℕ → Ending → Type 0) → Ending → Type 0
-FileCallsFor name most None Next e = e ≡ refusal status.File (codes "file " ++ shown_name name ++ codes " absent")
-FileCallsFor name most (Some bytes) Next e =
-    ((most < length bytes) × (e ≡ refusal status.File (codes "file " ++ shown_name name ++ codes " long")))
-    ⊎ ((length bytes ≤ most) × Next bytes e)
+-- the machine is built, and carries out the stops with the image in it
+abbrev pub MachineComesTo : Config → List Stop → Image → List ObjState → Ending → Type 0
+MachineComesTo c stops image parts e =
+    BuildStops c parts e
+    ⊎ ((lacking c parts ≡ None) × (e ≡ work_done (script_written c.system_budget (machine_start c image) stops).emissions))
 
--- the line on a faulty configuration
-abbrev pub config_text : CfgFault → List ℕ
-config_text faults.Text = codes "config text"
-config_text (faults.Unknown path) = codes "config unknown " ++ shown_name path
-config_text (faults.Missing path) = codes "config missing " ++ shown_name path
-config_text (faults.Value path) = codes "config value " ++ shown_name path
-config_text (faults.Shape path) = codes "config shape " ++ shown_name path
-config_text faults.NoMemory = codes "memory"
+-- `run`: the configuration is had, then the script, then the image, and the machine carries out the script
+abbrev pub RunComesTo : RunRequest → List ObjState → StoreSeen → StoreSeen → Ending → Type 0
+RunComesTo q parts old new e =
+    Then (ConfigStops q.config old new) (HasConfig q.config old.files)
+    (λ c. Then (ScriptStops q.script old new) (HasScript q.script old.files)
+    (λ stops. Then (ImageStops q.image c.system_ram old new) (HasImage q.image c.system_ram old.files)
+    (λ image. MachineComesTo c stops image parts))) e
 
--- it isn't want of memory
-abbrev pub IsInText : CfgFault → Type 0
-IsInText faults.Text = Unit {0}
-IsInText (faults.Unknown path) = Unit {0}
-IsInText (faults.Missing path) = Unit {0}
-IsInText (faults.Value path) = Unit {0}
-IsInText (faults.Shape path) = Unit {0}
-IsInText faults.NoMemory = ⊥
+-- the file of a program is put; or the store fails at it, which leaves a part; or memory was not found, and nothing was put
+abbrev pub PutComesTo : List ℕ → List ℕ → StoreSeen → StoreSeen → Ending → Type 0
+PutComesTo name words old new e =
+    (SameStore old new × (e ≡ memory_refusal))
+    ⊎ ((IsPut name (elf_bytes words) old new × (e ≡ work_done []))
+    ⊎ (IsPutCut name (elf_bytes words) old new × StoreFailed old new × (e ≡ store_refusal name)))
 
--- what the text of a configuration calls for: it has a fault, or the configuration calls for it
-abbrev pub ConfigCallsFor : List ℕ → (Config → Ending → Type 0) → Ending → Type 0
-ConfigCallsFor bytes Next e =
-    ((fault : CfgFault) × IsInText fault × IsCause bytes fault × (e ≡ refusal status.Config (config_text fault)))
-    ⊎ ((c : Config) × ParsesConfig bytes c × Next c e)
+-- `asm`: the source is had, and the ELF file of its words is put; where the source stops it, nothing was put
+abbrev pub AssemblyComesTo : AssemblyRequest → StoreSeen → StoreSeen → Ending → Type 0
+AssemblyComesTo q old new e =
+    Then (λ f. SameStore old new × SourceStops q.source old new f) (HasProgram q.source old.files)
+    (λ words. PutComesTo q.image words old new) e
 
--- what the text of a script calls for: a line is refused, or the stops call for it
-abbrev pub ScriptCallsFor : Result (List Stop) ℕ → (List Stop → Ending → Type 0) → Ending → Type 0
-ScriptCallsFor (Err n) Next e = e ≡ refusal status.Script (codes "script line " ++ decimal n)
-ScriptCallsFor (Ok stops) Next e = Next stops e
+-- what a request comes to; no request comes to the usage
+abbrev pub ComesTo : Option Request → List ObjState → StoreSeen → StoreSeen → Ending → Type 0
+ComesTo None parts old new e = e ≡ usage_refusal
+ComesTo (Some (Flat q)) parts old new e = FlatComesTo q old new e
+ComesTo (Some (Machine q)) parts old new e = RunComesTo q parts old new e
+ComesTo (Some (Assembly q)) parts old new e = AssemblyComesTo q old new e
 
--- how a script ends that was carried out
-abbrev pub written_ending : Written → Ending
-written_ending w = record { status = status.Done; console = w.console; report = w.report }
-
--- the machine runs, unless there are too few parts of a kind
-abbrev pub parts_ending : Config → List Stop → Image → Option Kind → Ending
-parts_ending c stops image (Some kind) = refusal status.Part (codes "part " ++ kind_name kind)
-parts_ending c stops image None = written_ending (script_written c.system_budget (machine_start c image) stops)
-
--- an image is loaded, and a faulty one is refused
-abbrev pub loaded_ending : Config → List Stop → List ObjState → Result Image ElfFault → Ending
-loaded_ending c stops parts (Ok image) = parts_ending c stops image (lacking c parts)
-loaded_ending c stops parts (Err fault) = refusal status.Image (image_text fault)
-
--- what the image's bytes call for: they say an image that RAM holds, or have a fault
-abbrev pub boot_ending : Config → List Stop → List ObjState → List ℕ → Ending
-boot_ending c stops parts file = loaded_ending c stops parts (image_of file c.system_ram)
-
--- what the image's file calls for
-abbrev pub ImageFileCallsFor : RunRequest → Option Files → List ObjState → Config → List Stop → Ending → Type 0
-ImageFileCallsFor q files parts c stops e =
-    (file : Option (List ℕ)) × IsFileOf files q.image file
-    × FileCallsFor q.image image_limit file (λ image f. f ≡ boot_ending c stops parts image) e
-
--- what the script's file calls for
-abbrev pub ScriptFileCallsFor : RunRequest → Option Files → List ObjState → Config → Ending → Type 0
-ScriptFileCallsFor q files parts c e =
-    (file : Option (List ℕ)) × IsFileOf files q.script file
-    × FileCallsFor q.script text_limit file (λ text f. ScriptCallsFor (stops_of text) (λ stops g. ImageFileCallsFor q files parts c stops g) f) e
-
--- what `run` calls for: the first of its files, in the order configuration, script, image, that is refused, or the run
-abbrev pub RunCallsFor : RunRequest → Option Files → List ObjState → Ending → Type 0
-RunCallsFor q files parts e =
-    (file : Option (List ℕ)) × IsFileOf files q.config file
-    × FileCallsFor q.config text_limit file (λ text f. ConfigCallsFor text (λ c g. ScriptFileCallsFor q files parts c g) f) e
-
--- the work is done, and nothing is written of it
-abbrev pub silent_ending : Ending
-silent_ending = record { status = status.Done; console = []; report = [] }
-
-abbrev pub IsDone : Ending → Type 0
-IsDone e = e ≡ silent_ending
-
--- what a source calls for: its words are put, or its first faulty line is told
-abbrev pub source_ending : Result (List ℕ) AsmFault → Ending
-source_ending (Ok words) = silent_ending
-source_ending (Err fault) = refusal status.Source (source_line_text fault)
-
--- what `asm` calls for: its source's file is refused, or the source calls for it
-abbrev pub AssemblyCallsFor : AssemblyRequest → Option Files → Ending → Type 0
-AssemblyCallsFor q files e =
-    (file : Option (List ℕ)) × IsFileOf files q.source file
-    × FileCallsFor q.source source_limit file (λ text f. f ≡ source_ending (source_words text)) e
-
--- what a request calls for; no request calls for the usage
-abbrev pub RequestCallsFor : Option Request → Option Files → List ObjState → Ending → Type 0
-RequestCallsFor None files parts e = e ≡ usage_ending
-RequestCallsFor (Some (Flat q)) files parts e =
-    (file : Option (List ℕ)) × IsFileOf files q.image file × (e ≡ file_ending q.image q.count file)
-RequestCallsFor (Some (Machine q)) files parts e = RunCallsFor q files parts e
-RequestCallsFor (Some (Assembly q)) files parts e = AssemblyCallsFor q files e
-
--- the words call for this ending
-unfoldable pub CallsFor : List (List ℕ) → Option Files → List ObjState → Ending → Type 0
-CallsFor words files parts e = RequestCallsFor (request_of words) files parts e
+-- a call with these words answers this status, and leaves what it says of an ending that the words come to
+unfoldable pub EndsAs : Status → List (List ℕ) → List ObjState → Outside → Outside → Type 0
+EndsAs s words parts old new = EndsBy (ComesTo (request_of words) parts) s old new

@@ -1,70 +1,65 @@
--- How a call ends: what its words and its files call for. Source: this project's own rule.
-use Rattle.std.specs.Prelude.{ℕ, nat_lt, if◌then◌else◌, List, [], ◌∷◌, ◌++◌, length, Option, Some, None, Result, Ok, Err, codes, decimal}
-use Rattle.elf_image.specs.Image.{image_of}
-use Rattle.elf_image.specs.declared.fault.ElfFault.{ElfFault}
-use Rattle.elf_image.specs.declared.fault.ElfFault.TheVariants as faults
-use Rattle.elf_image.specs.declared.image.Image.{Image}
-use Rattle.rv_step.specs.Run.{FlatState, flat_run}
+-- How a call ends. Source: this project's own rule.
+use Rattle.std.specs.Prelude.{◌≡◌, ℕ, ◌⊎◌, List, [], ◌∷◌, ◌++◌, Result, Ok, Err, codes}
+use Rattle.session.specs.Emissions.{Emission, ToReport, TakesAll, TakesFront, SinkFailed}
 use Rattle.session.specs.Names.{shown_name}
-use Rattle.session.specs.Report.{flat_report}
-use Rattle.session.specs.Run.{flat_size, flat_start}
+use Rattle.session.specs.Outside.{SinkSeen, StoreSeen, Sinks, Outside}
 use Rattle.session.specs.declared.status.Status.{Status}
 use Rattle.session.specs.declared.status.Status.TheVariants as status
 
--- the status, and what the console and the report take
+-- the status, and what is written
 pub record Ending : Type 0 where
   pub status : Status
-  pub console : List ℕ
-  pub report : List ℕ
+  pub emissions : List Emission
 
--- a refusal: the console takes nothing, and the report this one line
+-- the work is done, and this was written of it
+abbrev pub work_done : List Emission → Ending
+work_done emissions = record { status = status.Done; emissions = emissions }
+
+-- one line of the report, and nothing else
 abbrev pub refusal : Status → List ℕ → Ending
-refusal s text = record { status = s; console = []; report = text ++ 10 ∷ [] }
+refusal s line = record { status = s; emissions = ToReport line ∷ [] }
 
 -- the words are none of the forms
-abbrev pub usage_ending : Ending
-usage_ending = refusal status.Usage (codes "usage")
+abbrev pub usage_refusal : Ending
+usage_refusal = refusal status.Usage (codes "usage\n")
 
--- the longest file of an image, in bytes
-abbrev pub image_limit : ℕ
-image_limit = 33554432
+-- the file of a name is absent
+abbrev pub absent_refusal : List ℕ → Ending
+absent_refusal name = refusal status.File (codes "file " ++ shown_name name ++ codes " absent\n")
 
--- the line on a faulty image
-abbrev pub image_text : ElfFault → List ℕ
-image_text faults.Raw = codes "image raw"
-image_text faults.Header = codes "image header"
-image_text faults.Class = codes "image class"
-image_text faults.Order = codes "image order"
-image_text faults.Kind = codes "image kind"
-image_text faults.Machine = codes "image machine"
-image_text (faults.Segment index) = codes "image segment " ++ decimal index
-image_text faults.NoMemory = codes "memory"
+-- it is longer than it may be
+abbrev pub long_refusal : List ℕ → Ending
+long_refusal name = refusal status.File (codes "file " ++ shown_name name ++ codes " long\n")
 
--- a run that ended so
-abbrev pub run_ending : FlatState → Ending
-run_ending s = record { status = status.Done; console = s.console; report = flat_report s }
+-- the store failed at it
+abbrev pub store_refusal : List ℕ → Ending
+store_refusal name = refusal status.Store (codes "store " ++ shown_name name ++ codes "\n")
 
--- an image runs, and a faulty one is refused
-abbrev pub flat_ending : ℕ → Result Image ElfFault → Ending
-flat_ending count (Ok image) = run_ending (flat_run (flat_start image) count)
-flat_ending count (Err fault) = refusal status.Image (image_text fault)
+-- memory was not found
+abbrev pub memory_refusal : Ending
+memory_refusal = refusal status.Memory (codes "memory\n")
 
--- what an image's file calls for: it says an image that flat memory holds, or has a fault
-abbrev pub image_ending : ℕ → List ℕ → Ending
-image_ending count file = flat_ending count (image_of file flat_size)
+-- a call that comes to this ending leaves this status and these sinks: its own status, and all that it writes was taken;
+-- or a sink failed, and a front of it was
+abbrev pub Leaves : Ending → Status → Sinks → Sinks → Type 0
+Leaves e s old new =
+    ((s ≡ e.status) × TakesAll e.emissions old new)
+    ⊎ ((s ≡ status.Sink) × SinkFailed old new × TakesFront e.emissions old new)
 
--- the image's file is there or not
-abbrev pub file_ending : List ℕ → ℕ → Option (List ℕ) → Ending
-file_ending name count None = refusal status.File (codes "file " ++ shown_name name ++ codes " absent")
-file_ending name count (Some file) =
-    if nat_lt image_limit (length file)
-    then refusal status.File (codes "file " ++ shown_name name ++ codes " long")
-    else image_ending count file
+-- the same of a call that has the report alone: the console stays as it is
+abbrev pub Refuses : Ending → Status → SinkSeen → SinkSeen → Type 0
+Refuses e s old new = (console : SinkSeen)
+    → Leaves e s (record { console = console; report = old }) (record { console = console; report = new })
 
--- the line that the store failed at a file
-abbrev pub store_line : List ℕ → List ℕ
-store_line name = codes "store " ++ shown_name name ++ 10 ∷ []
+-- a step comes to one of these endings, and says so
+abbrev pub StopsWith : (Ending → Type 0) → Status → SinkSeen → SinkSeen → Type 0
+StopsWith Stops s old new = (e : Ending) × Stops e × Refuses e s old new
 
--- the line that memory could not be had
-abbrev pub memory_line : List ℕ
-memory_line = codes "memory" ++ 10 ∷ []
+-- a call comes to one of the endings that are allowed by what the store was and is
+abbrev pub EndsBy : (StoreSeen → StoreSeen → Ending → Type 0) → Status → Outside → Outside → Type 0
+EndsBy Comes s old new = (e : Ending) × Comes old.store new.store e × Leaves e s old.sinks new.sinks
+
+-- the status of a call
+abbrev pub status_of : Result (Unit {0}) Status → Status
+status_of (Ok done) = status.Done
+status_of (Err s) = s

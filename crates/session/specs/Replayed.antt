@@ -1,18 +1,41 @@
 -- What the events of a script note, against the instruction set over flat memory. Source: this project's own law.
-use Rattle.std.specs.Prelude.{◌≡◌, false, All, List, [], Some}
-use Rattle.cfg_tree.specs.Valid.{IsValidConfig}
+use Rattle.std.specs.Prelude.{◌≡◌, ℕ, false, All, List, [], Option, Some, None}
 use Rattle.cfg_tree.specs.declared.config.Config.{Config}
 use Rattle.elf_image.specs.Image.{LiesInRam}
 use Rattle.elf_image.specs.declared.image.Image.{Image}
+use Rattle.gc_outside.specs.Store.{Files}
+use Rattle.gm_model.specs.ObjState.{ObjState}
 use Rattle.gm_model.specs.Replay.{replay}
+use Rattle.gm_model.specs.Sys.{Sys}
 use Rattle.gm_model.specs.View.{program_state}
+use Rattle.kernel.specs.Build.{lacking}
+use Rattle.session.specs.Inputs.{HasConfig, HasScript, HasImage}
 use Rattle.session.specs.Script.{Written, script_written, machine_start}
+use Rattle.session.specs.Words.{RunRequest, Machine, request_of}
 use Rattle.stop_script.specs.declared.stop.Stop.{Stop}
 
--- from the start of each machine with an image, the replay of all that its events note leads from the program's state there to the one at
--- the end
+-- the replay of all that was noted on the way leads from the program's state at the start to the one at the end
+abbrev pub IsReplayedFrom : Sys → Written → Type 0
+IsReplayedFrom start w = replay start.router.routes (program_state start []) w.history ≡ Some (program_state w.sys [])
+
+-- so it is for each machine in atomic mode, with an image that lies in RAM, and each script
 abbrev pub ScriptsAreReplayed : Type 0
 ScriptsAreReplayed =
-    (c : Config) (image : Image) (stops : List Stop) → IsValidConfig c → c.system_model ≡ false → All (LiesInRam c.system_ram) image.pieces
-    → (let w : Written = script_written c.system_budget (machine_start c image) stops in
-    replay (machine_start c image).router.routes (program_state (machine_start c image) []) w.history ≡ Some (program_state w.sys []))
+    (c : Config) (image : Image) (stops : List Stop) → c.system_model ≡ false → All (LiesInRam c.system_ram) image.pieces
+    → IsReplayedFrom (machine_start c image) (script_written c.system_budget (machine_start c image) stops)
+
+-- the words name a configuration, a script and an image in these files, and the parts make a machine
+pub record CarriesOut (words : List (List ℕ)) (files : Option Files) (parts : List ObjState) (c : Config)
+    (stops : List Stop) (image : Image) : Type 0 where
+  pub request : RunRequest
+  pub asked : request_of words ≡ Some (Machine request)
+  pub has_config : HasConfig request.config files c
+  pub has_script : HasScript request.script files stops
+  pub has_image : HasImage request.image c.system_ram files image
+  pub built : lacking c parts ≡ None
+
+-- what a call with these words notes where it carries out its script
+abbrev pub ReplaysScript : List (List ℕ) → Option Files → List ObjState → Type 0
+ReplaysScript words files parts =
+    (c : Config) (stops : List Stop) (image : Image) → CarriesOut words files parts c stops image
+    → IsReplayedFrom (machine_start c image) (script_written c.system_budget (machine_start c image) stops)

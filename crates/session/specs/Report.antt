@@ -2,6 +2,7 @@
 use Rattle.std.specs.Prelude.{List, ℕ, [], ◌∷◌, ◌++◌, codes, decimal}
 use Rattle.rv_step.specs.Run.{FlatState, FlatReason, flat_reason}
 use Rattle.rv_step.specs.Run as run
+use Rattle.session.specs.Emissions.{Emission, ToConsole, ToReport}
 use Rattle.session.specs.Registers.{register_lines}
 
 -- why the run ended
@@ -17,3 +18,7 @@ flat_line s = codes "flat " ++ reason_text (flat_reason s) ++ codes " steps " ++
 -- that line, and the registers at the end
 abbrev pub flat_report : FlatState → List ℕ
 flat_report s = flat_line s ++ register_lines s.arch
+
+-- what a run that ended so wrote: its console's bytes, and then its report
+abbrev pub flat_emissions : FlatState → List Emission
+flat_emissions s = ToConsole s.console ∷ ToReport (flat_report s) ∷ []

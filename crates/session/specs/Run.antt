@@ -3,7 +3,7 @@ use Rattle.std.specs.Prelude.{ℕ, List}
 use Rattle.rv_step.specs.Run.{FlatState, loaded_state}
 use Rattle.elf_image.specs.Ram.{ram_of}
 use Rattle.elf_image.specs.declared.image.Image.{Image}
-use Rattle.session.specs.declared.run.FlatRun.{FlatRun}
+use Rattle.session.specs.declared.flat_run.FlatRun.{FlatRun}
 
 -- the run, whose console took these bytes since its start
 abbrev pub state_with : FlatRun → List ℕ → FlatState

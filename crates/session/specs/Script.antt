@@ -12,6 +12,7 @@ use Rattle.gm_model.specs.declared.goal.Reason.{Reason}
 use Rattle.gm_model.specs.declared.goal.Reason.TheVariants as reasons
 use Rattle.stop_script.specs.declared.stop.Stop.{Stop}
 use Rattle.stop_script.specs.declared.stop.Stop.TheVariants as stops
+use Rattle.session.specs.Emissions.{Emission, ToConsole, ToReport}
 use Rattle.session.specs.Registers.{register_lines}
 
 -- why a run ended
@@ -26,41 +27,44 @@ run_reason reasons.Limit = codes "limit"
 -- the line of a run: its reason, the tick at which the machine stands, and how many instructions and events it had
 abbrev pub run_line : Reason → ℕ → ℕ → ℕ → List ℕ
 run_line reason tick insts events =
-    codes "run " ++ run_reason reason ++ codes " at " ++ decimal tick ++ codes " insts " ++ decimal insts ++ codes " events " ++ decimal events ++ 10 ∷ []
+    codes "run " ++ run_reason reason ++ codes " at " ++ decimal tick ++ codes " insts " ++ decimal insts
+    ++ codes " events " ++ decimal events ++ codes "\n"
 
--- a machine, what was written on the way to it, and what its events noted
+-- a machine, what was written on the way to it, in order, and what its events noted
 pub record Written : Type 0 where
   pub sys : Sys
-  pub console : List ℕ
-  pub report : List ℕ
+  pub emissions : List Emission
   pub history : List Entry
 
--- what a run writes
+-- what a run writes: its console's bytes, and then its line
 abbrev pub run_written : RunEnd → Written
 run_written r = record {
   sys = r.ran.sys;
-  console = console_of r.ran.entries;
-  report = run_line r.reason r.ran.sys.tick (retired_in r.ran.entries) r.events;
+  emissions =
+      ToConsole (console_of r.ran.entries) ∷ ToReport (run_line r.reason r.ran.sys.tick (retired_in r.ran.entries) r.events) ∷ [];
   history = r.ran.entries;
 }
 
 -- what one stop does, where a run may serve so many events
 abbrev pub stop_written : ℕ → Sys → Stop → Written
 stop_written budget s (stops.Run until) = run_written (run_to s (record { until = until; budget = budget }))
-stop_written budget s stops.Regs = record { sys = s; console = []; report = register_lines (program_state s []).arch; history = [] }
+stop_written budget s stops.Regs = record {
+  sys = s;
+  emissions = ToReport (register_lines (program_state s []).arch) ∷ [];
+  history = [];
+}
 
 -- one after another
 abbrev pub then_written : Written → Written → Written
 then_written a b = record {
   sys = b.sys;
-  console = a.console ++ b.console;
-  report = a.report ++ b.report;
+  emissions = a.emissions ++ b.emissions;
   history = a.history ++ b.history;
 }
 
 -- what stops do in order
 unfoldable pub script_written : ℕ → Sys → List Stop → Written
-script_written budget s [] = record { sys = s; console = []; report = []; history = [] }
+script_written budget s [] = record { sys = s; emissions = []; history = [] }
 script_written budget s (x ∷ xs) = then_written (stop_written budget s x) (script_written budget (stop_written budget s x).sys xs)
 
 -- the machine of a configuration with an image in RAM and the hart at its entry, once it is resumed

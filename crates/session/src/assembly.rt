@@ -1,19 +1,19 @@
 // The words `asm SOURCE IMAGE`: a source is assembled, and the ELF file of its words is put.
-ghost use Rattle.std.specs.Prelude.{◌≡◌, ◌≤◌, ◌<◌, ◌-◌, ◌^◌, ℕ, List, [], ◌∷◌, Option, Some, None, length, IfOk, OnOk, OnErr, IfErr, Ok};
-ghost use Rattle.elf_image.specs.Written.{elf_bytes};
+ghost use Rattle.std.specs.Prelude.{◌≡◌, ◌≤◌, ◌<◌, ◌-◌, ◌^◌, Some, None, length, IfOk, OnOk, OnErr, IfErr, Ok};
 ghost use Rattle.gc_outside.specs.Faults.{Rose};
 ghost use Rattle.gc_outside.specs.Store.{ChangesFile};
 ghost use Rattle.gc_outside.specs.Told.{Told};
 ghost use Rattle.rv_asm.specs.Source.{Explains};
-ghost use Rattle.session.specs.Calls.{AssemblyCallsFor, IsDone};
-ghost use Rattle.session.specs.Leaves.{Ends, assembly_names, seen};
+ghost use Rattle.session.specs.Calls.{AssemblyComesTo, PutComesTo};
+ghost use Rattle.session.specs.Ending.{StopsWith, status_of};
+ghost use Rattle.session.specs.Inputs.{HasProgram, SourceStops};
 ghost use Rattle.session.specs.Named.{assembly_named};
-ghost use Rattle.session.specs.Puts.{AssemblyPuts, IsPutInPart, ProgramPuts, kept};
+ghost use Rattle.session.specs.Outside.{OnlyReads, sink_seen, store_seen};
+ghost use Rattle.session.specs.Puts.{IsPutInPart};
 ghost use Rattle.session.specs.Sources.{line_of_byte, source_words};
 
 use crate::fetch::fetch;
-use crate::refuse_text::refuse_source;
-use crate::say::{refuse, refuse_file};
+use crate::lines::{refuse, refuse_file, refuse_source};
 use crate::status::Status;
 use crate::words::AssemblyWords;
 use gc_base::limits::SOURCE_BYTES_MAX;
@@ -72,20 +72,39 @@ fn put_program<S: Store, R: Sink>(
     name: &str,
     store: &mut S,
     report: &mut R,
-) -> Status
-    ensures ends { (console : Option (List ℕ)) (n : ℕ) → Ends IsDone result (name.now ∷ [])
-        (seen (S.faults store.old) console n (R.taken report.old) (R.faults report.old))
-        (seen (S.faults store.new) console n (R.taken report.new) (R.faults report.new)) }
-    ensures puts { ProgramPuts result name.now program.now.words (kept (S.files store.old) (S.open_put store.old)) (kept (S.files store.new) (S.open_put store.new)) }
-    ensures count { S.faults store.old ≤ S.faults store.new }
+) -> Result<(), Status>
+    ensures { StopsWith
+        (PutComesTo name.now program.now.words (store_seen S.Store store.old) (store_seen S.Store store.new))
+        (status_of result) (sink_seen R.Sink report.old) (sink_seen R.Sink report.new) }
 {
     let file = match elf_image::write(alloc, program) {
         Ok(file) => file,
-        Err(_) => return refuse(Status::Memory, b"memory\n", report),
+        Err(_) => return Err(refuse(Status::Memory, b"memory\n", report)),
     };
     match put(name, &file, store) {
-        Ok(()) => Status::Done,
-        Err(Failed) => refuse_file(Status::Store, b"store ", name, b"\n", report),
+        Ok(()) => Ok(()),
+        Err(Failed) => Err(refuse_file(Status::Store, b"store ", name, b"\n", report)),
+    }
+}
+
+/// The words of a source's file.
+fn fetch_program<S: Store, R: Sink>(
+    alloc: Global,
+    name: &str,
+    store: &mut S,
+    report: &mut R,
+) -> Result<Program, Status>
+    ensures program { IfOk result (λ p. HasProgram name.now (S.files store.old) p.words) }
+    ensures silent { OnOk result (report.new ≡ report.old) }
+    ensures stops { IfErr result (λ s. StopsWith
+        (SourceStops name.now (store_seen S.Store store.old) (store_seen S.Store store.new))
+        s (sink_seen R.Sink report.old) (sink_seen R.Sink report.new)) }
+    ensures reads { OnlyReads (store_seen S.Store store.old) (store_seen S.Store store.new) }
+{
+    let source = fetch(alloc, name, SOURCE_BYTES_MAX, store, report)?;
+    match program_of(alloc, source.items()) {
+        Ok(program) => Ok(program),
+        Err(fault) => Err(refuse_source(fault, report)),
     }
 }
 
@@ -95,18 +114,11 @@ pub(crate) fn assembly<S: Store, R: Sink>(
     words: &AssemblyWords,
     store: &mut S,
     report: &mut R,
-) -> Status
-    ensures ends { (console : Option (List ℕ)) (n : ℕ) → Ends (AssemblyCallsFor (assembly_named words.now) (S.files store.old)) result (assembly_names (assembly_named words.now))
-        (seen (S.faults store.old) console n (R.taken report.old) (R.faults report.old))
-        (seen (S.faults store.new) console n (R.taken report.new) (R.faults report.new)) }
-    ensures puts { AssemblyPuts result (assembly_named words.now) (kept (S.files store.old) (S.open_put store.old)) (kept (S.files store.new) (S.open_put store.new)) }
+) -> Result<(), Status>
+    ensures { StopsWith
+        (AssemblyComesTo (assembly_named words.now) (store_seen S.Store store.old) (store_seen S.Store store.new))
+        (status_of result) (sink_seen R.Sink report.old) (sink_seen R.Sink report.new) }
 {
-    let source = match fetch(alloc, words.source, SOURCE_BYTES_MAX, store, report) {
-        Ok(source) => source,
-        Err(status) => return status,
-    };
-    match program_of(alloc, source.items()) {
-        Ok(program) => put_program(alloc, &program, words.image, store, report),
-        Err(fault) => refuse_source(fault, report),
-    }
+    let program = fetch_program(alloc, words.source, store, report)?;
+    put_program(alloc, &program, words.image, store, report)
 }

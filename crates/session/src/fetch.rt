@@ -1,11 +1,16 @@
-// A file that a call needs.
-ghost use Rattle.std.specs.Prelude.{◌≡◌, ◌≤◌, ℕ, List, [], ◌∷◌, ◌++◌, length, IfOk, OnOk, IfErr, Option, Some, None, codes};
-ghost use Rattle.session.specs.Calls.{IsFileOf};
-ghost use Rattle.session.specs.Fetched.{FileRefused};
+// Files that a call needs, and images in them.
+ghost use Rattle.std.specs.Prelude.{◌≡◌, ◌%◌, All, OnOk, IfOk, IfErr};
+ghost use Rattle.elf_image.specs.Image.{LiesInRam};
+ghost use Rattle.session.specs.Ending.{StopsWith};
+ghost use Rattle.session.specs.Inputs.{HasImage, ImageStops};
+ghost use Rattle.session.specs.Outside.{OnlyReads, sink_seen, store_seen};
+ghost use Rattle.session.specs.Fetched.{FileStops, HasFile};
 
-use crate::say::{refuse, refuse_file};
+use crate::lines::{refuse, refuse_file, refuse_image};
 use crate::status::Status;
+use elf_image::Image;
 use gc_base::Octets;
+use gc_base::limits::IMAGE_BYTES_MAX;
 use gc_outside::{GetError, Got, Sink, Store};
 use std::alloc::Global;
 
@@ -17,14 +22,12 @@ pub(crate) fn fetch<S: Store, R: Sink>(
     store: &mut S,
     report: &mut R,
 ) -> Result<Octets, Status>
-    ensures file { IfOk result (λ bytes. IsFileOf (S.files store.old) name.now (Some bytes)) }
-    ensures within { IfOk result (λ bytes. length bytes ≤ most) }
+    ensures file { IfOk result (HasFile name.now most (S.files store.old)) }
     ensures silent { OnOk result (report.new ≡ report.old) }
-    ensures refused { IfErr result (λ s. FileRefused name.now most (S.files store.old) s (S.faults store.old) (S.faults store.new)
-        (R.taken report.old) (R.taken report.new) (R.faults report.old) (R.faults report.new)) }
-    ensures same_files { S.files store.new ≡ S.files store.old }
-    ensures same_put { S.open_put store.new ≡ S.open_put store.old }
-    ensures count { S.faults store.old ≤ S.faults store.new }
+    ensures stops { IfErr result (λ s. StopsWith
+        (FileStops name.now most (store_seen S.Store store.old) (store_seen S.Store store.new))
+        s (sink_seen R.Sink report.old) (sink_seen R.Sink report.new)) }
+    ensures reads { OnlyReads (store_seen S.Store store.old) (store_seen S.Store store.new) }
 {
     match store.get(alloc, name, most) {
         Ok(Got::Bytes(bytes)) => Ok(bytes),
@@ -32,5 +35,29 @@ pub(crate) fn fetch<S: Store, R: Sink>(
         Ok(Got::Longer) => Err(refuse_file(Status::File, b"file ", name, b" long\n", report)),
         Err(GetError::Failed) => Err(refuse_file(Status::Store, b"store ", name, b"\n", report)),
         Err(GetError::NoMemory) => Err(refuse(Status::Memory, b"memory\n", report)),
+    }
+}
+
+/// The image that a file says, where RAM has `ram` bytes; or the status of the call, once its line is said.
+pub(crate) fn fetch_image<S: Store, R: Sink>(
+    alloc: Global,
+    name: &str,
+    ram: u32,
+    store: &mut S,
+    report: &mut R,
+) -> Result<Image, Status>
+    ensures image { IfOk result (HasImage name.now ram (S.files store.old)) }
+    ensures in_ram { IfOk result (λ image. All (LiesInRam ram) image.pieces) }
+    ensures aligned { IfOk result (λ image. image.entry % 4 ≡ 0) }
+    ensures silent { OnOk result (report.new ≡ report.old) }
+    ensures stops { IfErr result (λ s. StopsWith
+        (ImageStops name.now ram (store_seen S.Store store.old) (store_seen S.Store store.new))
+        s (sink_seen R.Sink report.old) (sink_seen R.Sink report.new)) }
+    ensures reads { OnlyReads (store_seen S.Store store.old) (store_seen S.Store store.new) }
+{
+    let file = fetch(alloc, name, IMAGE_BYTES_MAX, store, report)?;
+    match elf_image::read(alloc, file.items(), ram) {
+        Ok(image) => Ok(image),
+        Err(fault) => Err(refuse_image(fault, report)),
     }
 }

@@ -1,27 +1,27 @@
 //! The top call of the program: `gemcore`, over words, a store of files and two sinks.
 //!
-//! Its promise stands on that call: for each status what brings it and what it leaves, and with status 0 that console and
-//! report took exactly what the run over flat memory writes that the rules define. Of `specs/` read `Ending` first, which
-//! says what words and files call for, then `Leaves`, which says what a call leaves at each status, and `Report`.
-//! It opens no file and prints nothing by itself: that is the program's, in gc_cli.
+//! Its promise stands on that call: for each status what the words came to, step by step, what console and report
+//! took of it, in order, and what stands in the store. Of `specs/` read `Calls` first, which says what each form of
+//! words comes to, then `Ending` and `Emissions`, which say what that leaves, and `Outside`, the one value that clauses
+//! speak of. It opens no file and prints nothing by itself: that is the program's, in gc_cli.
 #![tactic(auto)]
 
 mod assembly;
-mod boot;
-mod carry_out;
 mod fetch;
 mod flat;
-mod machine;
-mod refuse_text;
+mod flat_report;
+mod flat_run;
+mod laws;
+mod lines;
 mod registers;
-mod report;
 mod run;
-mod say;
+mod script;
 mod status;
 #[cfg(test)]
 mod tests;
 mod top_call;
 mod words;
 
+pub use laws::{scripts_are_replayed, steps_are_counted};
 pub use status::Status;
 pub use top_call::gemcore;

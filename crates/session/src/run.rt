@@ -1,115 +1,152 @@
-// A run over flat memory, with a sink as its console.
-ghost use Rattle.std.specs.Prelude.{◌≡◌, ◌≤◌, ◌<◌, ◌+◌, ◌-◌, ◌^◌, ℕ, All, List, [], false, fold, length, is_ok, option_to_list, IfOk, OnOk};
+// The words `run CONFIG IMAGE SCRIPT`: an image in a machine.
+ghost use Rattle.std.specs.Prelude.{◌≡◌, ◌≤◌, ◌%◌, All, None, length, map, is_ok, OnOk, IfOk, IfErr};
+ghost use Rattle.cfg_tree.specs.Valid.{IsValidConfig};
 ghost use Rattle.elf_image.specs.Image.{LiesInRam};
-ghost use Rattle.elf_image.specs.Ram.{with_piece};
-ghost use Rattle.rv_step.specs.Flat.{flat_step};
-ghost use Rattle.rv_step.specs.Run.{is_over, next_state, flat_run, console_with};
-ghost use Rattle.gc_outside.specs.Emits.{Emits};
-ghost use Rattle.session.specs.Run.{state_with, flat_start};
+ghost use Rattle.kernel.specs.Build.{AreBlank, lacking};
+ghost use Rattle.kernel.specs.Load.{IsAsBuilt};
+ghost use Rattle.kernel.specs.Shown.{sys_of, sys_seen, IsMachine, IsSeen};
+ghost use Rattle.session.specs.Calls.{BuildStops, RunComesTo};
+ghost use Rattle.session.specs.Emissions.{EmitsInOrder};
+ghost use Rattle.session.specs.Ending.{EndsBy, StopsWith, status_of};
+ghost use Rattle.session.specs.Inputs.{HasConfig, ConfigStops, HasScript, ScriptStops};
+ghost use Rattle.session.specs.Named.{request_named};
+ghost use Rattle.session.specs.Outside.{OnlyReads, outside, sink_seen, sinks, store_seen};
+ghost use Rattle.session.specs.Script.{machine_start, script_written};
 
-use elf_image::{Image, Piece};
-use gc_base::NoMemory;
-use gc_outside::{Failed, Sink};
-use rv_step::{Arch, FlatEnd, FlatMem, step_flat};
+use crate::fetch::{fetch, fetch_image};
+use crate::lines::{refuse, refuse_config, refuse_part, refuse_script};
+use crate::script::carry_out;
+use crate::status::Status;
+use crate::words::RunWords;
+use cfg_tree::Config;
+use elf_image::Image;
+use gc_base::limits::{CONFIG_BYTES_MAX, SCRIPT_BYTES_MAX};
+use gc_outside::{Failed, Sink, Store};
+use kernel::{BuildFault, Machine};
+use obj_core::SimObject;
 use std::alloc::Global;
+use stop_script::{Script, Stop};
 
-/// The size of flat memory, in bytes.
-pub(crate) const FLAT_SIZE: u32 = 16_777_216;
-
-/// A hart over flat memory, the exit number that its guest wrote, and the steps made so far.
-#[derive(Drop)]
-pub(crate) struct FlatRun {
-    pub arch: Arch,
-    pub ram: FlatMem,
-    pub exit: Option<u32>,
-    pub steps: u64,
-}
-
-fn exit_number(end: FlatEnd) -> Option<u32>
-    ensures { result ≡ Rattle.rv_step.specs.Run.exit_number end }
+/// The configuration that a file writes.
+fn fetch_config<S: Store, R: Sink>(
+    alloc: Global,
+    name: &str,
+    store: &mut S,
+    report: &mut R,
+) -> Result<Config, Status>
+    ensures config { IfOk result (HasConfig name.now (S.files store.old)) }
+    ensures valid { IfOk result IsValidConfig }
+    ensures silent { OnOk result (report.new ≡ report.old) }
+    ensures stops { IfErr result (λ s. StopsWith
+        (ConfigStops name.now (store_seen S.Store store.old) (store_seen S.Store store.new))
+        s (sink_seen R.Sink report.old) (sink_seen R.Sink report.new)) }
+    ensures reads { OnlyReads (store_seen S.Store store.old) (store_seen S.Store store.new) }
 {
-    match end {
-        FlatEnd::Exit(n) => Some(n),
-        FlatEnd::Retired | FlatEnd::Trapped | FlatEnd::Slept => None,
+    let text = fetch(alloc, name, CONFIG_BYTES_MAX, store, report)?;
+    match cfg_tree::read(alloc, text.items()) {
+        Ok(config) => Ok(config),
+        Err(fault) => Err(refuse_config(&fault, report)),
     }
 }
 
-/// Puts pieces into RAM, in order.
-fn load_pieces(ram: &mut FlatMem, pieces: &[Piece])
-    requires within { All (LiesInRam (length ram.old)) pieces.now }
-    requires size { length ram.old ≤ FLAT_SIZE }
-    ensures { ram.new ≡ fold with_piece ram.old pieces.now }
+/// The script that a file says.
+fn fetch_script<S: Store, R: Sink>(
+    alloc: Global,
+    name: &str,
+    config: &Config,
+    store: &mut S,
+    report: &mut R,
+) -> Result<Script, Status>
+    ensures script { IfOk result (λ script. HasScript name.now (S.files store.old) script.stops) }
+    ensures silent { OnOk result (report.new ≡ report.old) }
+    ensures stops { IfErr result (λ s. StopsWith
+        (ScriptStops name.now (store_seen S.Store store.old) (store_seen S.Store store.new))
+        s (sink_seen R.Sink report.old) (sink_seen R.Sink report.new)) }
+    ensures reads { OnlyReads (store_seen S.Store store.old) (store_seen S.Store store.new) }
 {
-    for piece in pieces {
-        load_piece(ram, piece);
+    let text = fetch(alloc, name, SCRIPT_BYTES_MAX, store, report)?;
+    match stop_script::read(alloc, text.items(), config) {
+        Ok(script) => Ok(script),
+        Err(fault) => Err(refuse_script(fault, report)),
     }
 }
 
-/// Puts a piece into RAM, its zeros with it.
-fn load_piece(ram: &mut FlatMem, piece: &Piece)
-    requires within { LiesInRam (length ram.old) piece.now }
-    requires size { length ram.old ≤ FLAT_SIZE }
-    ensures loaded { ram.new ≡ with_piece ram.old piece.now }
-    ensures size { length ram.new ≡ length ram.old }
+/// The machine of a configuration; or the status of the call, once it is said of which kind there are too few parts.
+fn build<R: Sink>(
+    alloc: Global,
+    config: &Config,
+    parts: Vec<Box<dyn SimObject>>,
+    report: &mut R,
+) -> Result<Machine, Status>
+    requires valid { IsValidConfig config.now }
+    requires blank { AreBlank (map (λ b. state b) parts.items) }
+    ensures machine { IfOk result (λ m. IsMachine state m) }
+    ensures built { IfOk result (λ m. IsAsBuilt config.now (sys_of state m)) }
+    ensures whole { OnOk result (lacking config.now (map (λ b. state b) parts.items) ≡ None) }
+    ensures silent { OnOk result (report.new ≡ report.old) }
+    ensures stops { IfErr result (λ s. StopsWith (BuildStops config.now (map (λ b. state b) parts.items))
+        s (sink_seen R.Sink report.old) (sink_seen R.Sink report.new)) }
 {
-    let mut done = 0;
-    while let Some(block) = piece.block(done) {
-        ram.put(piece.addr + done, block);
-        done += block.len() as u64;
+    match Machine::build(alloc, config, parts) {
+        Ok(machine) => Ok(machine),
+        Err(BuildFault::Part { kind }) => Err(refuse_part(kind, report)),
+        Err(BuildFault::NoMemory) => Err(refuse(Status::Memory, b"memory\n", report)),
     }
 }
 
-impl FlatRun {
-    /// A run that is about to begin: the image in RAM, all else 0, and the hart at its entry.
-    pub fn load(alloc: Global, image: &Image) -> Result<FlatRun, NoMemory>
-        requires { All (LiesInRam FLAT_SIZE) image.now.pieces }
-        ensures { IfOk result (λ r. state_with r [] ≡ flat_start image.now) }
-    {
-        let mut ram = FlatMem::new(alloc, FLAT_SIZE)?;
-        load_pieces(&mut ram, image.pieces.items());
-        Ok(FlatRun {
-            arch: Arch::reset(image.entry),
-            ram,
-            exit: None,
-            steps: 0,
-        })
-    }
+/// Loads the image, lets the machine go on, and carries out the stops.
+fn perform<C: Sink, R: Sink>(
+    machine: Machine,
+    config: &Config,
+    stops: &[Stop],
+    image: &Image,
+    console: &mut C,
+    report: &mut R,
+) -> Result<(), Failed>
+    requires machine { IsSeen machine state }
+    requires valid { IsValidConfig config.now }
+    requires built { IsAsBuilt config.now (sys_seen machine state) }
+    requires in_ram { All (LiesInRam config.now.system_ram) image.now.pieces }
+    requires aligned { image.now.entry % 4 ≡ 0 }
+    requires few { length stops.now ≤ 256 }
+    ensures { EmitsInOrder
+        (script_written config.now.system_budget (machine_start config.now image.now) stops.now).emissions (is_ok result)
+        (sinks C.Sink R.Sink console.old report.old) (sinks C.Sink R.Sink console.new report.new) }
+{
+    let mut machine = machine;
+    machine.load_image(image);
+    machine.resume_all();
+    carry_out(&mut machine, stops, config.system_budget, console, report)
+}
 
-    fn is_over(&self) -> bool
-        ensures { result ≡ is_over (state_with self.now []) }
-    {
-        self.exit.is_some() || self.arch.asleep
-    }
-
-    /// One step. Its byte for the console, if it has one, is emitted.
-    fn step<C: Sink>(&mut self, console: &mut C) -> Result<(), Failed>
-        requires on { is_over (state_with self.old []) ≡ false }
-        requires room { self.old.steps < 2 ^ 64 - 1 }
-        ensures count { self.new.steps ≡ self.old.steps + 1 }
-        ensures moved { (bytes : List ℕ) → next_state (state_with self.old bytes) ≡ state_with self.new (console_with bytes (flat_step self.old.arch self.old.ram).step.console) }
-        ensures emitted { Emits (option_to_list (flat_step self.old.arch self.old.ram).step.console) (is_ok result) (C.taken console.old) (C.taken console.new) (C.faults console.old) (C.faults console.new) }
-    {
-        let step = step_flat(&mut self.arch, &mut self.ram);
-        self.steps += 1;
-        self.exit = exit_number(step.end);
-        match step.console {
-            Some(b) => console.emit(&[b]),
-            None => Ok(()),
-        }
-    }
-
-    /// At most so many steps. A failed emit ends the run behind the step whose byte it was.
-    pub fn run<C: Sink>(&mut self, console: &mut C, count: u64) -> Result<(), Failed>
-        requires { self.old.steps ≡ 0 }
-        ensures state { OnOk result (state_with self.new (flat_run (state_with self.old []) count).console ≡ flat_run (state_with self.old []) count) }
-        ensures emitted { Emits (flat_run (state_with self.old []) count).console (is_ok result) (C.taken console.old) (C.taken console.new) (C.faults console.old) (C.faults console.new) }
-    {
-        while self.steps < count && !self.is_over() {
-            match self.step(console) {
-                Ok(()) => {}
-                Err(e) => return Err(e),
-            }
-        }
-        Ok(())
+/// Gets the configuration, the script and the image, builds the machine, and carries out the script.
+pub(crate) fn run<S: Store, C: Sink, R: Sink>(
+    alloc: Global,
+    words: &RunWords,
+    parts: Vec<Box<dyn SimObject>>,
+    store: &mut S,
+    console: &mut C,
+    report: &mut R,
+) -> Result<(), Status>
+    requires blank { AreBlank (map (λ b. state b) parts.items) }
+    ensures reads { OnlyReads (store_seen S.Store store.old) (store_seen S.Store store.new) }
+    ensures ends { EndsBy (RunComesTo (request_named words.now) (map (λ b. state b) parts.items)) (status_of result)
+        (outside S.Store C.Sink R.Sink store.old console.old report.old)
+        (outside S.Store C.Sink R.Sink store.new console.new report.new) }
+{
+    let config = fetch_config(alloc, words.config, store, report)?;
+    let script = fetch_script(alloc, words.script, &config, store, report)?;
+    let image = fetch_image(alloc, words.image, config.system_ram as u32, store, report)?;
+    let machine = build(alloc, &config, parts, report)?;
+    match perform(
+        machine,
+        &config,
+        script.stops.items(),
+        &image,
+        console,
+        report,
+    ) {
+        Ok(()) => Ok(()),
+        Err(_) => Err(Status::Sink),
     }
 }

@@ -1,5 +1,6 @@
 // How a call of the program ends.
 ghost use Rattle.std.specs.Prelude.{◌≡◌};
+ghost use Rattle.session.specs.Ending.{status_of};
 
 /// How a call ended. Its number is the status of the process.
 #[derive(Clone, Copy, Debug, PartialEq, Eq)]
@@ -36,5 +37,15 @@ impl Status {
         ensures { result ≡ code_of self }
     {
         self as u8
+    }
+}
+
+/// The status of a call that was made.
+pub(crate) fn status_of(done: Result<(), Status>) -> Status
+    ensures { result ≡ status_of done }
+{
+    match done {
+        Ok(()) => Status::Done,
+        Err(status) => status,
     }
 }

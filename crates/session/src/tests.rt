@@ -19,6 +19,49 @@ fn words_of(alloc: Global, text: &str) -> Result<Vec<String>, AllocError> {
     Ok(words)
 }
 
+/// What a call answers, and the sinks as it leaves them.
+#[derive(Drop)]
+struct Left {
+    status: u8,
+    console: MemSink,
+    report: MemSink,
+}
+
+/// Makes a call with words that are parted by `|`, over these sinks.
+fn call_over(
+    rt: &(impl Abort + AllocGlobal),
+    text: &str,
+    store: &mut MemStore,
+    (console, report): (MemSink, MemSink),
+) -> Result<Left, NoMemory> {
+    let words = words_of(rt.alloc(), text)?;
+    let (mut console, mut report) = (console, report);
+    let status = gemcore(
+        rt.alloc(),
+        words.as_slice(),
+        Vec::new(rt.alloc()),
+        store,
+        &mut console,
+        &mut report,
+    );
+    Ok(Left {
+        status,
+        console,
+        report,
+    })
+}
+
+/// Makes a call over sinks that don't fail.
+fn call(
+    rt: &(impl Abort + AllocGlobal),
+    text: &str,
+    store: &mut MemStore,
+) -> Result<Left, NoMemory> {
+    let console = MemSink::new(rt.alloc(), 100)?;
+    let report = MemSink::new(rt.alloc(), 4000)?;
+    call_over(rt, text, store, (console, report))
+}
+
 /// lui x10, 0x10000; addi x5, x0, 1; sb x5, 0(x10); lui x11, 0x100; sw x0, 0(x11): one byte to the console, and exit 0.
 const STORE_AND_EXIT: [u8; 20] = [
     0x37, 0x05, 0x00, 0x10, 0x93, 0x02, 0x10, 0x00, 0x23, 0x00, 0x55, 0x00, 0xb7, 0x05, 0x10, 0x00,
@@ -238,20 +281,10 @@ mstatus 0000000000001800\n",
 fn calls_write_what_the_rules_say(rt: HostRuntime) -> Result<(), Fail> {
     let mut store = images(&rt)?;
     for case in &CASES {
-        let words = words_of(rt.alloc(), case.words)?;
-        let mut console = MemSink::new(rt.alloc(), 100)?;
-        let mut report = MemSink::new(rt.alloc(), 2000)?;
-        let status = gemcore(
-            rt.alloc(),
-            words.as_slice(),
-            Vec::new(rt.alloc()),
-            &mut store,
-            &mut console,
-            &mut report,
-        );
-        assert_eq!(rt; status, case.status);
-        assert_eq!(rt; console.bytes(), case.console);
-        assert_eq!(rt; report.bytes(), case.report);
+        let left = call(&rt, case.words, &mut store)?;
+        assert_eq!(rt; left.status, case.status);
+        assert_eq!(rt; left.console.bytes(), case.console);
+        assert_eq!(rt; left.report.bytes(), case.report);
     }
     Ok(())
 }
@@ -271,46 +304,24 @@ fn long_images_are_refused(rt: HostRuntime) -> Result<(), Fail> {
         let image = zeros(rt.alloc(), length)?;
         let mut store = MemStore::new(rt.alloc(), length)?;
         assert!(rt; store.add("long", image.as_slice()));
-        let words = words_of(rt.alloc(), "flat|long|1")?;
-        let mut console = MemSink::new(rt.alloc(), 100)?;
-        let mut report = MemSink::new(rt.alloc(), 100)?;
-        let answer = gemcore(
-            rt.alloc(),
-            words.as_slice(),
-            Vec::new(rt.alloc()),
-            &mut store,
-            &mut console,
-            &mut report,
-        );
-        assert_eq!(rt; answer, status);
-        assert_eq!(rt; report.bytes(), line);
+        let left = call(&rt, "flat|long|1", &mut store)?;
+        assert_eq!(rt; left.status, status);
+        assert_eq!(rt; left.report.bytes(), line);
     }
     Ok(())
 }
 
 #[test]
 fn a_long_name_is_said_whole(rt: HostRuntime) -> Result<(), Fail> {
-    let mut words = words_of(rt.alloc(), "flat")?;
-    let mut name = String::new(rt.alloc());
+    let mut text = "flat|".to_string(rt.alloc())?;
     for _ in 0..3000 {
-        name.push('n')?;
+        text.push('n')?;
     }
-    words.push(name)?;
-    words.push("1".to_string(rt.alloc())?)?;
-    let mut store = images(&rt)?;
-    let mut console = MemSink::new(rt.alloc(), 100)?;
-    let mut report = MemSink::new(rt.alloc(), 4000)?;
-    let status = gemcore(
-        rt.alloc(),
-        words.as_slice(),
-        Vec::new(rt.alloc()),
-        &mut store,
-        &mut console,
-        &mut report,
-    );
-    assert_eq!(rt; status, 7);
-    assert_eq!(rt; report.bytes().len(), 3013);
-    assert!(rt; report.bytes().ends_with(b"nnn absent\n"));
+    text.push_str("|1")?;
+    let left = call(&rt, text.as_str(), &mut images(&rt)?)?;
+    assert_eq!(rt; left.status, 7);
+    assert_eq!(rt; left.report.bytes().len(), 3013);
+    assert!(rt; left.report.bytes().ends_with(b"nnn absent\n"));
     Ok(())
 }
 
@@ -332,19 +343,11 @@ fn run_with_faults(
     if let Some(call) = of_report {
         assert!(rt; report.fail_at(call));
     }
-    let words = words_of(rt.alloc(), "flat|four_bytes|9")?;
-    let answer = gemcore(
-        rt.alloc(),
-        words.as_slice(),
-        Vec::new(rt.alloc()),
-        &mut store,
-        &mut console,
-        &mut report,
-    );
-    assert_eq!(rt; answer, status);
-    assert_eq!(rt; console.bytes(), console_bytes);
-    assert!(rt; report.bytes().starts_with(report_start));
-    assert_eq!(rt; report.bytes().is_empty(), report_start.is_empty());
+    let left = call_over(rt, "flat|four_bytes|9", &mut store, (console, report))?;
+    assert_eq!(rt; left.status, status);
+    assert_eq!(rt; left.console.bytes(), console_bytes);
+    assert!(rt; left.report.bytes().starts_with(report_start));
+    assert_eq!(rt; left.report.bytes().is_empty(), report_start.is_empty());
     Ok(())
 }
 
@@ -465,46 +468,26 @@ static RUN_REFUSALS: [(&str, u8, &[u8]); 15] = [
 fn the_first_refusal_of_a_run_is_said(rt: HostRuntime) -> Result<(), Fail> {
     let mut store = run_files(&rt)?;
     for (text, status, line) in &RUN_REFUSALS {
-        let words = words_of(rt.alloc(), text)?;
-        let mut console = MemSink::new(rt.alloc(), 100)?;
-        let mut report = MemSink::new(rt.alloc(), 100)?;
-        let answer = gemcore(
-            rt.alloc(),
-            words.as_slice(),
-            Vec::new(rt.alloc()),
-            &mut store,
-            &mut console,
-            &mut report,
-        );
-        assert_eq!(rt; answer, *status);
-        assert_eq!(rt; console.bytes(), [].as_slice());
-        assert_eq!(rt; report.bytes(), *line);
+        let left = call(&rt, text, &mut store)?;
+        assert_eq!(rt; left.status, *status);
+        assert_eq!(rt; left.console.bytes(), [].as_slice());
+        assert_eq!(rt; left.report.bytes(), *line);
     }
     Ok(())
 }
 
 #[test]
 fn a_store_that_fails_is_said_with_its_file(rt: HostRuntime) -> Result<(), Fail> {
-    for (call, line) in [
+    for (failing, line) in [
         (0, b"store a\n".as_slice()),
         (1, b"store script\n".as_slice()),
         (2, b"store image\n".as_slice()),
     ] {
         let mut store = run_files(&rt)?;
-        assert!(rt; store.fail_at(call));
-        let words = words_of(rt.alloc(), "run|a|image|script")?;
-        let mut console = MemSink::new(rt.alloc(), 100)?;
-        let mut report = MemSink::new(rt.alloc(), 100)?;
-        let answer = gemcore(
-            rt.alloc(),
-            words.as_slice(),
-            Vec::new(rt.alloc()),
-            &mut store,
-            &mut console,
-            &mut report,
-        );
-        assert_eq!(rt; answer, 8);
-        assert_eq!(rt; report.bytes(), line);
+        assert!(rt; store.fail_at(failing));
+        let left = call(&rt, "run|a|image|script", &mut store)?;
+        assert_eq!(rt; left.status, 8);
+        assert_eq!(rt; left.report.bytes(), line);
     }
     Ok(())
 }

@@ -1,7 +1,7 @@
 // The words of the command line.
 ghost use Rattle.std.specs.Prelude.{◌≡◌, List, ℕ, map, Some, None, MatchOption, string_bytes};
 ghost use Rattle.session.specs.Words.{allowed_count, spelled_number, flat_request, run_request, assembly_request};
-ghost use Rattle.session.specs.Named.{request_named, assembly_named};
+ghost use Rattle.session.specs.Named.{flat_named, request_named, assembly_named};
 
 use gc_text::read_dec;
 
@@ -29,16 +29,14 @@ fn read_count(text: &str) -> Option<u64>
 impl<'a> FlatWords<'a> {
     /// The words after the program's name, where they are `flat`, a name and a number of steps.
     pub fn read(words: &'a [String]) -> Option<FlatWords<'a>>
-        ensures { MatchOption result (flat_request (map string_bytes words.now) ≡ None) (λ w. flat_request (map string_bytes words.now) ≡ Some (record { image = w.image.now; count = w.count })) }
+        ensures { MatchOption result (flat_request (map string_bytes words.now) ≡ None)
+            (λ w. flat_request (map string_bytes words.now) ≡ Some (flat_named w)) }
     {
         match words {
-            [form, image, count] if form.as_str() == "flat" => match read_count(count.as_str()) {
-                Some(count) => Some(FlatWords {
-                    image: image.as_str(),
-                    count,
-                }),
-                None => None,
-            },
+            [form, image, count] if form.as_str() == "flat" => Some(FlatWords {
+                image: image.as_str(),
+                count: read_count(count.as_str())?,
+            }),
             _ => None,
         }
     }
@@ -55,7 +53,8 @@ pub struct RunWords<'a> {
 impl<'a> RunWords<'a> {
     /// The words after the program's name, where they are `run` and three names.
     pub fn read(words: &'a [String]) -> Option<RunWords<'a>>
-        ensures { MatchOption result (run_request (map string_bytes words.now) ≡ None) (λ w. run_request (map string_bytes words.now) ≡ Some (request_named w)) }
+        ensures { MatchOption result (run_request (map string_bytes words.now) ≡ None)
+            (λ w. run_request (map string_bytes words.now) ≡ Some (request_named w)) }
     {
         match words {
             [form, config, image, script] if form.as_str() == "run" => Some(RunWords {
@@ -78,7 +77,8 @@ pub struct AssemblyWords<'a> {
 impl<'a> AssemblyWords<'a> {
     /// The words after the program's name, where they are `asm` and two names.
     pub fn read(words: &'a [String]) -> Option<AssemblyWords<'a>>
-        ensures { MatchOption result (assembly_request (map string_bytes words.now) ≡ None) (λ w. assembly_request (map string_bytes words.now) ≡ Some (assembly_named w)) }
+        ensures { MatchOption result (assembly_request (map string_bytes words.now) ≡ None)
+            (λ w. assembly_request (map string_bytes words.now) ≡ Some (assembly_named w)) }
     {
         match words {
             [form, source, image] if form.as_str() == "asm" => Some(AssemblyWords {

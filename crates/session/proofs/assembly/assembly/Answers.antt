@@ -1,16 +1,20 @@
-use Rattle.std.proofs.Common.{refl, ap, inl}
-use Rattle.session.proofs.MachineLemmas.{ends-file, assembled-ends, faulty-ends}
+use Rattle.std.proofs.Common.{refl, ap, ◌∙◌, inl, inr}
+use Rattle.std.proofs.lemmas.Result.{err_from_is_err_and}
+use Rattle.session.specs.Outside.{sink_seen, store_seen}
+use Rattle.session.proofs.CallLemmas.{put_earlier}
+use Rattle.session.proofs.EmissionLemmas.{refuses_from}
 use Rattle.session.proofs.assembly.assembly.Goals as goal
 
-pub returns-in-Err-clause-ends : goal.returns-in-Err-clause-ends
-returns-in-Err-clause-ends g c = λ console n. ends-file _ console n _ _ _ _ _ _ _ _ _ _ _ (inl refl) c.in-Err.ensures.refused
+pub returns-in_err-program : goal.returns-in_err-program
+returns-in_err-program g c =
+    let p = err_from_is_err_and c.from_residual.result c.from_residual.ensures.1 in
+    let h = c.in_err-program.ensures.stops in
+    rw (p.1, p.2) (h.0, inl (c.in_err-program.ensures.reads.same, h.1), h.2)
 
-pub returns-in-Ok-program_of-clause-ends : goal.returns-in-Ok-program_of-clause-ends
-returns-in-Ok-program_of-clause-ends g c = λ console n.
-    assembled-ends _ _ c.in-Ok.source _ c.in-Ok.ensures.file c.in-Ok.ensures.within c.items.ensures _ console n _ _ c.fetch.ensures.count _ _ (ap g.R.Sink.taken c.in-Ok.ensures.silent) _ _ (ap g.R.Sink.faults c.in-Ok.ensures.silent)
-    c.in-Ok-program_of.program.words _ c.in-Ok-program_of.ensures.words (c.put_program.ensures.ends console n)
-
-pub returns-clause-ends : goal.returns-clause-ends
-returns-clause-ends g c = λ console n.
-    faulty-ends _ _ c.in-Ok.source _ c.in-Ok.ensures.file c.in-Ok.ensures.within c.items.ensures _ console n _ _ c.fetch.ensures.count _ _ (ap g.R.Sink.taken c.in-Ok.ensures.silent) _ _ (ap g.R.Sink.faults c.in-Ok.ensures.silent)
-    c.in-Err-program_of.fault _ _ _ c.in-Err-program_of.ensures.fault c.refuse_source.ensures
+pub returns : goal.returns
+returns g c =
+    let h = c.put_program.ensures in (
+      h.0,
+      inr (c.in_ok-program.program.words, c.in_ok-program.ensures.program, put_earlier _ _ (store_seen g.S.Store c.args.store.now) (store_seen g.S.Store c.fetch_program.new.store) (store_seen g.S.Store c.put_program.new.store) _ c.in_ok-program.ensures.reads h.1),
+      refuses_from _ _ _ _ _ (ap (sink_seen g.R.Sink) c.in_ok-program.ensures.silent) h.2,
+    )
