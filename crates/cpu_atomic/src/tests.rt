@@ -6,7 +6,7 @@ use crate::AtomicCpu;
 use ev_queue::{EventHandle, EventQueue};
 use gc_base::{NoMemory, ObjId, PktId, PortNo, SlotNo, Tick};
 use gm_model::{Act, Answer, Cmd, Kind, Own, Packet, Params, Wake};
-use obj_core::{Handles, Outbox, SimObject};
+use obj_core::{Handles, Item, Outbox, SimObject};
 use rv_step::Arch;
 use std::alloc::Global;
 use std::test::Fail;
@@ -81,7 +81,13 @@ fn a_cpu_goes_on_and_fetches(rt: HostRuntime) -> Result<(), Fail> {
         port: PortNo(0),
         pkt: first_fetch(),
     };
-    assert_eq!(rt; out.take_act(), Some(fetch));
+    assert_eq!(rt;
+        out.first(),
+        Some(&Item::Sent {
+            sender: ObjId(0),
+            act: fetch
+        })
+    );
     let boxed: Box<dyn SimObject> = Box::new(rt.alloc(), part)?;
     assert_eq!(rt; boxed.kind(), Kind::AtomicCpu);
     assert!(rt; !boxed.drained());

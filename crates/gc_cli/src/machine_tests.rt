@@ -364,7 +364,7 @@ fn each_event_is_served_at_its_own_tick(rt: HostRuntime) -> Result<(), Fail> {
 }
 
 // The store is fetched, its byte goes to the UART, and it retires.
-static STORED: [Entry; 3] = [
+const STORED: [Entry; 3] = [
     Entry::Served {
         src: 0,
         id: PktId(2),
