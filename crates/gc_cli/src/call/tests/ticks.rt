@@ -70,7 +70,7 @@ macro_rules! trapped {
     };
 }
 
-static TICKS: [Case; 26] = [
+static SERVED: [Case; 8] = [
     Case {
         name: "sleep_ends_a_run",
         files: files!(chartime "1000", source "wfi\n", script "run end\nregs\nrun end\n"),
@@ -131,6 +131,9 @@ run idle at 100000 insts 0 events 0\n",
         report: trapped!(at "601566", x10 "0000000010001000", "mcause 0000000000000005\nmtval 0000000010000fff\n"),
         ..SILENT
     },
+];
+
+static AT_THE_EDGES: [Case; 5] = [
     // An address of no range takes the way alone.
     Case {
         name: "load_behind_the_uart",
@@ -168,6 +171,9 @@ run idle at 100000 insts 0 events 0\n",
 mstatus 0000000000001800\nmtvec 0000000080000014\n",
         ..SILENT
     },
+];
+
+static TRAPPED: [Case; 7] = [
     // What traps before anything is sent takes no access.
     Case {
         name: "misaligned_load",
@@ -223,6 +229,9 @@ mstatus 0000000000001800\nmtvec 0000000080000014\nmepc 0000000020000000\nmcause 
 mstatus 0000000000001808\nmie 0000000000000888\n",
         ..SILENT
     },
+];
+
+static OF_THE_UART: [Case; 6] = [
     Case {
         name: "registers_of_the_uart_are_read",
         // The loop begins at 300,222. It takes 101,122 for the load and 100,111 for each of four more, eight times: 4,312,750.
@@ -305,6 +314,21 @@ run idle at 1200111 insts 0 events 0\n",
 ];
 
 #[test]
-fn ticks_are_what_each_access_and_event_takes(rt: HostRuntime) -> Result<(), Fail> {
-    expect_assembled_and_run(&rt, &TICKS)
+fn accesses_take_their_way_and_their_server(rt: HostRuntime) -> Result<(), Fail> {
+    expect_assembled_and_run(&rt, &SERVED)
+}
+
+#[test]
+fn addresses_of_no_range_take_the_way_alone(rt: HostRuntime) -> Result<(), Fail> {
+    expect_assembled_and_run(&rt, &AT_THE_EDGES)
+}
+
+#[test]
+fn what_traps_before_it_is_sent_takes_no_access(rt: HostRuntime) -> Result<(), Fail> {
+    expect_assembled_and_run(&rt, &TRAPPED)
+}
+
+#[test]
+fn a_byte_takes_its_time_on_the_line(rt: HostRuntime) -> Result<(), Fail> {
+    expect_assembled_and_run(&rt, &OF_THE_UART)
 }
