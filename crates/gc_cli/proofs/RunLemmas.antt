@@ -8,9 +8,9 @@ use Rattle.gm_model.specs.Sys.{Sys}
 use Rattle.gm_model.specs.ObjState.{ObjState, IsBlank}
 use Rattle.gm_model.specs.Fire.{fire_first, fire_due, timed_run}
 use Rattle.gm_model.specs.Run.{RunEnd, EndsRun, run_to, reason_at, reason_for, exit_reason, due_reason, late_reason, has_retired, is_late, exit_of, retired_in, last_tick}
-use Rattle.gm_model.specs.declared.goal.Goal.{Goal}
-use Rattle.gm_model.specs.declared.goal.Reason.{Reason}
-use Rattle.gm_model.specs.declared.goal.Reason.TheVariants as reasons
+use Rattle.gm_words.specs.declared.goal.Goal.{Goal}
+use Rattle.gm_words.specs.declared.goal.Reason.{Reason}
+use Rattle.gm_words.specs.declared.goal.Reason.TheVariants as reasons
 use Rattle.gm_model.proofs.RunEnds.{runs_end, budget_ends}
 use Rattle.kernel.specs.Build.{AreBlank}
 use Rattle.kernel.specs.Ends.{TellsEnd}

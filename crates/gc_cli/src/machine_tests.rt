@@ -5,7 +5,7 @@ ghost use Rattle.gc_base.specs.declared.limits.TheConstants.{TOP};
 ghost use Rattle.ev_queue.specs.PendingList.{first};
 ghost use Rattle.cfg_tree.specs.Valid.{IsValidConfig};
 ghost use Rattle.gm_model.specs.ObjState.{IsBlank};
-ghost use Rattle.gm_model.specs.declared.goal.Reason.{Reason};
+ghost use Rattle.gm_words.specs.declared.goal.Reason.{Reason};
 ghost use Rattle.kernel.specs.Build.{AreBlank};
 ghost use Rattle.kernel.specs.Shown.{sys_of, sys_seen, IsMachine, IsSeen};
 

@@ -6,9 +6,9 @@ use Rattle.ev_queue.specs.PendingList.{first}
 use Rattle.gm_model.specs.Sys.{Sys}
 use Rattle.gm_model.specs.Fire.{timed_run, one_more}
 use Rattle.gm_model.specs.Run.{RunEnd, reason_for, EndsRun, RunsEnd, run_on, run_to, reason_at, exit_reason, due_reason, has_retired, retired_in, exit_of, is_late, last_tick}
-use Rattle.gm_model.specs.declared.goal.Goal.{Goal}
-use Rattle.gm_model.specs.declared.goal.Reason.{Reason}
-use Rattle.gm_model.specs.declared.goal.Reason.TheVariants as reasons
+use Rattle.gm_words.specs.declared.goal.Goal.{Goal}
+use Rattle.gm_words.specs.declared.goal.Reason.{Reason}
+use Rattle.gm_words.specs.declared.goal.Reason.TheVariants as reasons
 
 -- the budget is served, so there is a reason
 late_reason : (a b c : Bool) → c ≡ true

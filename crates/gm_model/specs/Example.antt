@@ -6,12 +6,13 @@ use Rattle.rv_step.specs.Bytes.{bytes_of}
 use Rattle.rv_step.specs.FlatMem.{ram_base}
 use Rattle.gm_model.specs.Sys.{Sys}
 use Rattle.gm_model.specs.Fire.{fire_first}
-use Rattle.gm_model.specs.Run.{RunEnd, run_to, retired_in, console_of}
+use Rattle.gm_model.specs.Run.{RunEnd, run_to, retired_in}
+use Rattle.gm_words.specs.Entries.{console_of}
 use Rattle.gm_model.specs.Start.{start_state, resumed_state, ram_with_front}
 use Rattle.cfg_tree.specs.declared.config.Config.{Config}
-use Rattle.gm_model.specs.declared.goal.Reason.{Reason}
-use Rattle.gm_model.specs.declared.goal.Reason.TheVariants as reasons
-use Rattle.gm_model.specs.declared.goal.Until.TheVariants as untils
+use Rattle.gm_words.specs.declared.goal.Reason.{Reason}
+use Rattle.gm_words.specs.declared.goal.Reason.TheVariants as reasons
+use Rattle.gm_words.specs.declared.goal.Until.TheVariants as untils
 
 -- a machine in atomic mode, with RAM of 64 bytes
 abbrev pub small_config : Config

@@ -2,19 +2,17 @@
 use Rattle.std.specs.Prelude.{◌≡◌, ℕ, zero, suc, ◌+◌, ◌<◌, ◌==◌, nat_lt, nat_le, ◌&&◌, Bool, false, not, if◌then◌else◌, List, [], ◌∷◌, ◌++◌, take, Option, Some, None}
 use Rattle.ev_queue.specs.declared.due.Due.{Due}
 use Rattle.ev_queue.specs.PendingList.{first}
-use Rattle.rv_step.specs.Flat.{uart_base}
-use Rattle.gm_model.specs.Platform.{data_source}
 use Rattle.gm_model.specs.ObjState.{ObjState}
 use Rattle.gm_model.specs.Command.{exit_code}
 use Rattle.gm_model.specs.Sys.{Sys}
 use Rattle.gm_model.specs.Fire.{Ran, not_begun, one_more, timed_run}
-use Rattle.gm_model.specs.declared.entry.Entry.{Entry}
-use Rattle.gm_model.specs.declared.entry.Entry.TheVariants as entries
-use Rattle.gm_model.specs.declared.goal.Goal.{Goal}
-use Rattle.gm_model.specs.declared.goal.Reason.{Reason}
-use Rattle.gm_model.specs.declared.goal.Reason.TheVariants as reasons
-use Rattle.gm_model.specs.declared.goal.Until.{Until}
-use Rattle.gm_model.specs.declared.goal.Until.TheVariants as untils
+use Rattle.gm_words.specs.declared.entry.Entry.{Entry}
+use Rattle.gm_words.specs.declared.entry.Entry.TheVariants as entries
+use Rattle.gm_words.specs.declared.goal.Goal.{Goal}
+use Rattle.gm_words.specs.declared.goal.Reason.{Reason}
+use Rattle.gm_words.specs.declared.goal.Reason.TheVariants as reasons
+use Rattle.gm_words.specs.declared.goal.Until.{Until}
+use Rattle.gm_words.specs.declared.goal.Until.TheVariants as untils
 
 -- the greatest tick at which a run serves an event, 2^62
 abbrev pub last_tick : ℕ
@@ -33,23 +31,6 @@ retired_in (e ∷ es) = retired_by e + retired_in es where
   retired_by (entries.Hit object) = 0
   retired_by (entries.Miss object) = 0
   retired_by (entries.Refused object) = 0
-
--- the bytes that an entry brings to the console: a byte that the hart writes at the UART's offset 0, unrefused
-abbrev pub console_bytes : Entry → List ℕ
-console_bytes (entries.Served src id write addr size bytes device fault) =
-    if (src == data_source) && write && (addr == uart_base) && (size == 1) && not fault then take 1 bytes else []
-console_bytes (entries.Retired pc word) = []
-console_bytes (entries.Trapped cause tval) = []
-console_bytes (entries.Line bit level) = []
-console_bytes entries.Slept = []
-console_bytes (entries.Hit object) = []
-console_bytes (entries.Miss object) = []
-console_bytes (entries.Refused object) = []
-
--- the bytes that entries bring to the console
-abbrev pub console_of : List Entry → List ℕ
-console_of [] = []
-console_of (e ∷ es) = console_bytes e ++ console_of es
 
 -- the number with which the guest has exited, if it has
 abbrev pub exit_of : List ObjState → Option ℕ

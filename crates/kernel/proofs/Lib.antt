@@ -8,3 +8,4 @@ pub mod Runs
 pub mod Picks
 pub mod Loads
 pub mod SettledLemmas
+pub mod Loops

@@ -2,8 +2,8 @@
 use Rattle.std.proofs.Common.{◌≡◌, ℕ, ◌<◌, ◌==◌, List, [], ◌∷◌, length, map, get_or, suc, zero, refl, sym, ◌∙◌, ap, arith, false, ◌||◌, remove, subst}
 use Rattle.std.proofs.lemmas.Bool.Decides.{nat_tests}
 use Rattle.std.proofs.lemmas.List.{get_or-map}
-use Rattle.gm_model.specs.declared.kind.Kind.{Kind}
-use Rattle.gm_model.specs.declared.kind.Kind.TheVariants as kinds
+use Rattle.gm_words.specs.declared.kind.Kind.{Kind}
+use Rattle.gm_words.specs.declared.kind.Kind.TheVariants as kinds
 use Rattle.gm_model.specs.ObjState.{ObjState, Blank, kind_of, IsBlank}
 use Rattle.kernel.specs.Build.{has, rank_of, AreBlank, IsPart}
 

@@ -1,17 +1,17 @@
 -- Which parts a machine takes, and when it can't be built. This project's own rule.
 use Rattle.std.specs.Prelude.{◌≡◌, ℕ, ◌==◌, Bool, true, false, not, ◌||◌, is_some, if◌then◌else◌, List, [], ◌∷◌, length, Option, Some, None}
 use Rattle.ev_queue.specs.declared.due.Due.{Due}
-use Rattle.gm_model.specs.Counts.{no_counts}
-use Rattle.gm_model.specs.Kind.{kind_of_own}
+use Rattle.gm_words.specs.Counts.{no_counts}
+use Rattle.gm_words.specs.Kind.{kind_of_own}
 use Rattle.gm_model.specs.ObjState.{ObjState, kind_of, IsBlank}
-use Rattle.gm_model.specs.Platform.{platform, slot_classes, device_class}
-use Rattle.gm_model.specs.Router.{router_of}
+use Rattle.gm_words.specs.Platform.{platform, slot_classes, device_class, wires_of}
+use Rattle.gm_words.specs.Router.{router_of}
 use Rattle.gm_model.specs.Sys.{Sys}
-use Rattle.gm_model.specs.declared.params.Params.{Params}
+use Rattle.gm_words.specs.declared.params.Params.{Params}
 use Rattle.cfg_tree.specs.declared.config.CacheConfig.{CacheConfig}
 use Rattle.cfg_tree.specs.declared.config.Config.{Config}
-use Rattle.gm_model.specs.declared.kind.Kind.{Kind}
-use Rattle.gm_model.specs.declared.kind.Kind.TheVariants as kinds
+use Rattle.gm_words.specs.declared.kind.Kind.{Kind}
+use Rattle.gm_words.specs.declared.kind.Kind.TheVariants as kinds
 use Rattle.kernel.specs.declared.build_fault.BuildFault.{BuildFault}
 use Rattle.kernel.specs.declared.build_fault.BuildFault.TheVariants as faults
 
@@ -95,5 +95,6 @@ standing c pending objects = record {
   rebased = 0;
   trace = false;
   draining = true;
+  wires = wires_of (platform c);
   router = router_of c;
 }

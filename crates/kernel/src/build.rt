@@ -3,13 +3,13 @@ ghost use Rattle.std.specs.Prelude.{◌≡◌, ◌^◌, ◌<◌, [], ◌∷◌, 
 ghost use Rattle.ev_queue.specs.SlotTable.{is_free, granted};
 ghost use Rattle.rv_step.specs.Arch.{reset};
 ghost use Rattle.rv_step.specs.FlatMem.{ram_base};
-ghost use Rattle.gm_model.specs.Allowed.{IsAllowed};
+ghost use Rattle.gm_words.specs.Allowed.{IsAllowed};
 ghost use Rattle.cfg_tree.specs.Valid.{IsValidConfig};
 ghost use Rattle.gm_model.specs.Command.{start_of, with_arch};
-ghost use Rattle.gm_model.specs.Kind.{kind_of_own};
-ghost use Rattle.gm_model.specs.Start.{params_of, start_state, built_object};
-ghost use Rattle.gm_model.specs.declared.kind.Kind.{Kind};
-ghost use Rattle.gm_model.specs.declared.own.Own.{Own};
+ghost use Rattle.gm_words.specs.Kind.{kind_of_own};
+ghost use Rattle.gm_model.specs.Start.{params_of, start_state};
+ghost use Rattle.gm_words.specs.declared.kind.Kind.{Kind};
+ghost use Rattle.gm_words.specs.declared.own.Own.{Own};
 ghost use Rattle.obj_core.specs.Handles.{AreHandlesOf};
 ghost use Rattle.kernel.specs.Build.{IsPart, AreBlank, lacking, NamesLack, HasOneDeviceSlot, HasTwoDeviceSlots, standing};
 
@@ -20,12 +20,18 @@ use crate::pick::{Picked, pick};
 use crate::router::Router;
 use ev_queue::{EventHandle, EventQueue};
 use gc_base::{NoMemory, ObjId, SlotNo};
-use gm_model::platform::{ATOMIC_CPU, EXIT, MEMORY, RAM_BASE, UART};
+use gm_model::platform::{self, RAM_BASE};
 use gm_model::{Config, Own, Params};
 use obj_core::{Handles, Outbox, SimObject};
 use probe_stats::Counters;
 use rv_step::Arch;
 use std::alloc::Global;
+
+// The places of the parts in the platform's table.
+const ATOMIC_CPU: ObjId = ObjId(0);
+const EXIT: ObjId = ObjId(1);
+const MEMORY: ObjId = ObjId(2);
+const UART: ObjId = ObjId(3);
 
 /// What an object of a machine is configured with.
 fn params(c: &Config, object: ObjId, own: Own) -> Params
@@ -77,7 +83,7 @@ fn cpu_part(
     requires valid { IsValidConfig c.now }
     requires part { IsPart Kind.AtomicCpu (state part) }
     requires free { IsTrue (is_free queue.old.table 0 0) }
-    ensures part { IfOk result (λ b. state b ≡ with_arch (Some (reset ram_base)) (built_object c.now 0 Kind.AtomicCpu)) }
+    ensures part { IfOk result (λ b. state b ≡ with_arch (Some (reset ram_base)) (start_of (params_of c.now 0 (Own.AtomicCpu c.now.cpu_period)) (Own.AtomicCpu c.now.cpu_period))) }
     ensures queue { OnOk result (queue.new ≡ record queue.old { table = granted queue.old.table 0 0 50 }) }
 {
     let mut part = part;
@@ -136,8 +142,8 @@ fn sender_part(
 }
 
 impl Machine {
-    ghost use Rattle.gm_model.specs.Platform.{platform};
-    ghost use Rattle.gm_model.specs.Sound.{given_table};
+    ghost use Rattle.gm_words.specs.Platform.{platform};
+    ghost use Rattle.gm_words.specs.Slots.{given_table};
     ghost use Rattle.kernel.specs.Settled.{IsSettled};
     ghost use Rattle.kernel.specs.Shown.{sys_of, IsMachine};
 
@@ -200,14 +206,17 @@ impl Machine {
         ensures machine { IfOk result (λ m. sys_of state m ≡ standing c.now queue.pending (map (λ b. state b) parts.items)) }
         ensures table { IfOk result (λ m. m.queue.table ≡ queue.table) }
     {
-        let counters = Counters::new(alloc, c)?;
+        let platform = platform::parts(alloc, c)?;
+        let counters = Counters::new(alloc, platform.len())?;
+        let router = Router::new(alloc, c, platform.as_slice())?;
         let tick = counters.since();
         Ok(Machine {
+            platform,
             parts,
             queue,
             out: Outbox::new(alloc)?,
             counters,
-            router: Router::new(alloc, c)?,
+            router,
             tick,
             draining: true,
         })

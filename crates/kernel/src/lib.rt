@@ -18,6 +18,7 @@ mod reason;
 mod router;
 mod run_end;
 mod serve;
+mod wiring;
 
 pub use build_fault::BuildFault;
 pub use machine::Machine;

@@ -1,20 +1,19 @@
 // An image is put into a machine.
-ghost use Rattle.std.specs.Prelude.{◌≡◌, ◌≤◌, ◌%◌, length, All};
+ghost use Rattle.std.specs.Prelude.{◌≡◌, ◌≤◌, ◌%◌, true, length, All};
 ghost use Rattle.cfg_tree.specs.declared.config.Config.{Config};
 ghost use Rattle.elf_image.specs.Image.{LiesInRam};
 ghost use Rattle.elf_image.specs.Ram.{bytes_of_piece, ram_of};
 ghost use Rattle.gc_base.specs.declared.limits.TheConstants.{RAM_MAX};
-ghost use Rattle.gm_model.specs.Drained.{IsDrained};
+ghost use Rattle.gm_model.specs.Drained.{is_settled};
 ghost use Rattle.gm_model.specs.Start.{start_state, with_raw};
 ghost use Rattle.gm_model.specs.View.{own_ram};
 ghost use Rattle.kernel.specs.Load.{IsAsBuilt, entered};
 ghost use Rattle.kernel.specs.Settled.{IsSettled};
 ghost use Rattle.kernel.specs.Shown.{sys_of, entries_of, IsMachine};
 
-use crate::boxes::give_arch_box;
+use crate::boxes::{arch_box, give_arch_box};
 use crate::machine::Machine;
 use elf_image::{Image, Piece};
-use gm_model::platform::ATOMIC_CPU;
 use rv_step::Arch;
 
 impl Machine {
@@ -38,7 +37,7 @@ impl Machine {
     /// Puts a piece into RAM, its zeros with it.
     fn load_piece(&mut self, piece: &Piece)
         requires machine { IsMachine state self.old }
-        requires drained { IsDrained (sys_of state self.old) }
+        requires drained { is_settled (sys_of state self.old) ≡ true }
         requires within { LiesInRam (length (own_ram (sys_of state self.old).objects)) piece.now }
         requires size { length (own_ram (sys_of state self.old).objects) ≤ RAM_MAX }
         ensures raw { sys_of state self.new ≡ with_raw piece.now.addr (bytes_of_piece piece.now) (sys_of state self.old) }
@@ -54,11 +53,14 @@ impl Machine {
 
     /// Resets the hart to begin at an entry.
     fn enter(&mut self, entry: u64)
-        requires { IsMachine state self.old }
         ensures entered { sys_of state self.new ≡ entered entry (sys_of state self.old) }
         ensures entries { entries_of self.new ≡ entries_of self.old }
         ensures table { self.new.queue.table ≡ self.old.queue.table }
     {
-        give_arch_box(&mut self.parts[ATOMIC_CPU.0 as usize], Arch::reset(entry));
+        for i in 0..self.parts.len() {
+            if arch_box(&self.parts[i]).is_some() {
+                give_arch_box(&mut self.parts[i], Arch::reset(entry));
+            }
+        }
     }
 }

@@ -1,7 +1,7 @@
 // Which parts a machine takes out of those that it is handed.
 ghost use Rattle.std.specs.Prelude.{◌≡◌, ◌==◌, ◌<◌, length, map, true, false, Some, None, IfOk, OnOk, IfErr, IfSome, OnSome, IfNone, slice_index_or};
 ghost use Rattle.gm_model.specs.ObjState.{Blank, kind_of, IsBlank};
-ghost use Rattle.gm_model.specs.declared.kind.Kind.{Kind};
+ghost use Rattle.gm_words.specs.declared.kind.Kind.{Kind};
 ghost use Rattle.kernel.specs.Build.{rank_of, has, AreBlank, lacking, IsPart, some_cache};
 
 use crate::boxes::kind_of_box;

@@ -6,10 +6,11 @@ ghost use Rattle.gc_outside.specs.Faults.{Rose};
 ghost use Rattle.gc_outside.specs.Sink.{Appends, AppendsFront};
 ghost use Rattle.gc_outside.specs.Told.{Told};
 ghost use Rattle.ev_queue.specs.PendingList.{first};
-ghost use Rattle.gm_model.specs.AtomicMachine.{IsRunReplayed};
+ghost use Rattle.gm_system.specs.Runs.{IsRunReplayed};
 ghost use Rattle.gm_model.specs.Deliver.{deliver, items_max};
 ghost use Rattle.gm_model.specs.Fire.{fire_first, event_delivered, counted};
-ghost use Rattle.gm_model.specs.Run.{console_of, reason_for, run_to};
+ghost use Rattle.gm_words.specs.Entries.{console_of};
+ghost use Rattle.gm_model.specs.Run.{reason_for, run_to};
 ghost use Rattle.kernel.specs.Ends.{TellsEnd, StopsAtByte, IsFaultOf, last_noted};
 ghost use Rattle.kernel.specs.Ready.{IsUnderWay, MayServe, HasEventsLeft, at_tick, not_begun, without_first};
 ghost use Rattle.kernel.specs.declared.run_end.RunFault.{RunFault};
@@ -106,7 +107,7 @@ impl Machine {
         _report: &mut R,
     ) -> Result<RunEnd, RunFault>
         requires machine { IsMachine state self.old }
-        requires events { (sys_of state self.old).counts.events + g.budget < 2 ^ 55 }
+        requires events { (sys_of state self.old).counts.events + g.budget < 2 ^ 54 }
 
         ensures ended { IfOk result (λ e. TellsEnd e (run_to (sys_of state self.old) g)) }
         ensures budget { IfOk result (λ e. e.events ≤ g.budget) }

@@ -1,7 +1,7 @@
 // RAM as a device: each request is served at once. This project's own rule.
 // Not modelled: banks, rows and refresh of a real memory, and the queue of the timing mode.
 ghost use Rattle.std.specs.Prelude.{◌≡◌, refl};
-ghost use Rattle.gm_model.specs.declared.kind.Kind.TheVariants as kinds;
+ghost use Rattle.gm_words.specs.declared.kind.Kind.TheVariants as kinds;
 
 use crate::ram::Ram;
 use gc_base::{NoMemory, Tick};

@@ -1,9 +1,9 @@
 // A server that is configured.
 ghost use Rattle.std.specs.Prelude.{◌≡◌, ◌≤◌, [], IsTrue};
-ghost use Rattle.gm_model.specs.Platform.{slot_classes};
-ghost use Rattle.gm_model.specs.Serve.{serve};
-ghost use Rattle.gm_model.specs.Sound.{gave_from};
-ghost use Rattle.gm_model.specs.Stepped.{changed};
+ghost use Rattle.gm_words.specs.Platform.{slot_classes};
+ghost use Rattle.gm_model.specs.Server.{serve};
+ghost use Rattle.gm_words.specs.Slots.{gave_from};
+ghost use Rattle.gm_words.specs.Changes.{changed};
 ghost use Rattle.obj_core.specs.Handles.{handles_of};
 ghost use Rattle.obj_core.specs.Out.{HasRoom, extended};
 

@@ -1,12 +1,12 @@
 // What serves a server's requests.
 ghost use Rattle.std.specs.Prelude.{◌≡◌, ◌+◌, ◌≤◌, [], length, take, drop, is_some, if◌then◌else◌, IfOk, IfSome, MatchOption};
-ghost use Rattle.gm_model.specs.Allowed.{IsAllowed};
-ghost use Rattle.gm_model.specs.Kind.{kind_of_own};
+ghost use Rattle.gm_words.specs.Allowed.{IsAllowed};
+ghost use Rattle.gm_words.specs.Kind.{kind_of_own};
 ghost use Rattle.gm_model.specs.ObjState.{device_kind};
-ghost use Rattle.gm_model.specs.Serve.{serve};
-ghost use Rattle.gm_model.specs.Command.{start_of, server_start, device_bytes, device_with_bytes, device_code, device_takes_input, device_with_input};
+ghost use Rattle.gm_model.specs.Server.{serve, server_start, device_after_event, device_bytes, device_with_bytes, device_code, device_takes_input, device_with_input};
+ghost use Rattle.gm_model.specs.Command.{start_of};
 ghost use Rattle.obj_core.specs.Out.{HasRoom, extended};
-ghost use Rattle.obj_server.specs.Device.{own_changes, HasEvent, ReadsAtOnce};
+ghost use Rattle.obj_server.specs.Device.{own_changes, ReadsAtOnce};
 
 use gc_base::limits::TOP;
 use gc_base::{NoMemory, Tick};
@@ -35,7 +35,7 @@ pub struct Start<D: Drop> {
 /// - What it hasn't, as bytes, input or an exit number, it denies.
 pub trait Device: Drop {
     ghost use Rattle.gm_model.specs.ObjState.{Device as DeviceState};
-    ghost use Rattle.gm_model.specs.declared.kind.Kind.{Kind as PartKind};
+    ghost use Rattle.gm_words.specs.declared.kind.Kind.{Kind as PartKind};
 
     /// The device's state, however it is kept.
     ghost shown: { Self → DeviceState };
@@ -65,7 +65,7 @@ pub trait Device: Drop {
 
     /// Its own event is served.
     fn event(&mut self)
-        ensures { HasEvent (shown self.old) (shown self.new) };
+        ensures { shown self.new ≡ device_after_event (shown self.old) };
 
     /// Answers a read without time, if it keeps the bytes.
     fn functional(&self, p: &mut Packet)

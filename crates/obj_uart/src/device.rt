@@ -4,7 +4,7 @@
 ghost use Rattle.std.specs.Prelude.{◌≡◌, ◌≤◌, refl};
 ghost use Rattle.std.specs.VecDeque.{deque_capacity};
 ghost use Rattle.gc_base.specs.declared.limits.TheConstants.{LATENCY_MAX};
-ghost use Rattle.gm_model.specs.declared.kind.Kind.TheVariants as kinds;
+ghost use Rattle.gm_words.specs.declared.kind.Kind.TheVariants as kinds;
 
 use gc_base::limits::UART_INPUT_MAX;
 use gc_base::{NoMemory, Tick};

@@ -1,7 +1,6 @@
 -- One more at a place of a list of counts.
 use Rattle.std.proofs.Common.{◌≡◌, ℕ, suc, zero, ◌+◌, ◌<◌, ◌≤◌, refl, sym, ◌∙◌, ap, arith, List, [], ◌∷◌, length, get_or, set}
-use Rattle.gm_model.specs.Counts.{one_more_at}
-use Rattle.gm_model.specs.Sound.{AreUpTo}
+use Rattle.gm_words.specs.Counts.{one_more_at, AreUpTo}
 
 pub one_more-set : (ks : List ℕ) (i x : ℕ) → i < length ks → x ≡ get_or ks i x → set ks i (x + 1) ≡ one_more_at ks i
 one_more-set [] i x l e = absurd (omega arith)

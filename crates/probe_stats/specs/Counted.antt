@@ -1,6 +1,6 @@
 -- Counters as contracts see them. This project's own rule.
 use Rattle.std.specs.Prelude.{ℕ}
-use Rattle.gm_model.specs.Counts.{Counts, no_counts}
+use Rattle.gm_words.specs.Counts.{Counts, no_counts}
 
 -- what was counted, and the tick since when
 pub record Counted : Type 0 where

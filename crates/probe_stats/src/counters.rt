@@ -1,13 +1,10 @@
 // How often what was noted.
-ghost use Rattle.std.specs.Prelude.{◌≡◌, ℕ, ◌+◌, ◌-◌, ◌^◌, ◌<◌, length, vec_len, IfOk};
-ghost use Rattle.gm_model.specs.Counts.{count_entry, count_access, one_more_at};
-ghost use Rattle.gm_model.specs.Platform.{platform};
-ghost use Rattle.gm_model.specs.Sound.{AreUpTo, IsCountedUpTo};
+ghost use Rattle.std.specs.Prelude.{◌≡◌, ℕ, ◌+◌, ◌-◌, ◌^◌, ◌<◌, vec_len, IfOk};
+ghost use Rattle.gm_words.specs.Counts.{count_entry, count_access, one_more_at, AreUpTo, IsCountedUpTo};
 ghost use Rattle.probe_stats.specs.Counted.{begun_at};
 
 use gc_base::{NoMemory, ObjId, Tick};
-use gm_model::platform::part_count;
-use gm_model::{Config, Entry};
+use gm_words::Entry;
 use std::alloc::Global;
 use std::marker::Model;
 
@@ -55,11 +52,10 @@ impl Model for Counters {
 }
 
 impl Counters {
-    /// Counters of the parts of a machine, all 0, since tick 0.
-    pub fn new(alloc: Global, c: &Config) -> Result<Counters, NoMemory>
-        ensures { IfOk result (λ t. t ≡ begun_at (length (platform c.now)) 0) }
+    /// Counters of so many parts, all 0, since tick 0.
+    pub fn new(alloc: Global, parts: usize) -> Result<Counters, NoMemory>
+        ensures { IfOk result (λ t. t ≡ begun_at parts 0) }
     {
-        let parts = part_count(c);
         Ok(Counters {
             retired: 0,
             sleeps: 0,

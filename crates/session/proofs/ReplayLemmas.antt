@@ -7,17 +7,18 @@ use Rattle.elf_image.proofs.RamLaws.{length-ram_of}
 use Rattle.elf_image.specs.Image.{LiesInRam}
 use Rattle.elf_image.specs.Ram.{ram_of}
 use Rattle.elf_image.specs.declared.image.Image.{Image}
-use Rattle.gm_model.specs.AtomicMachine.{IsAtomicMachine, IsRunReplayed}
+use Rattle.gm_model.specs.AtomicMachine.{IsAtomicMachine}
+use Rattle.gm_system.specs.Runs.{IsRunReplayed}
 use Rattle.gm_model.specs.Deliver.{Item, Sent, Done, Delivery, deliver_first, deliver_wake, deliver_atomic, deliver_line, deliver}
 use Rattle.gm_model.specs.Fire.{Ran, fire, fire_event, fire_due, timed_run, taken_out}
-use Rattle.gm_model.specs.Replay.{replay}
-use Rattle.gm_model.specs.Router.{Route, destination}
+use Rattle.gm_words.specs.Replay.{replay}
+use Rattle.gm_words.specs.Router.{Route, destination}
 use Rattle.gm_model.specs.Run.{run_to}
 use Rattle.gm_model.specs.Sys.{Sys, active_cpu}
 use Rattle.gm_model.specs.View.{program_state}
-use Rattle.gm_model.specs.declared.act.Act.TheVariants as acts
-use Rattle.gm_model.specs.declared.goal.Goal.{Goal}
-use Rattle.gm_model.specs.declared.wake.Wake.TheVariants as wakes
+use Rattle.gm_words.specs.declared.act.Act.TheVariants as acts
+use Rattle.gm_words.specs.declared.goal.Goal.{Goal}
+use Rattle.gm_words.specs.declared.wake.Wake.TheVariants as wakes
 use Rattle.gm_model.proofs.ReplayLemmas.{replay-append}
 use Rattle.gm_model.proofs.ReplayRuns.{runs_replayed}
 use Rattle.gm_model.proofs.RunEnds.{runs_end}

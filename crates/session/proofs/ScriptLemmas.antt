@@ -11,9 +11,10 @@ use Rattle.ev_queue.specs.declared.due.Due.{Due}
 use Rattle.ev_queue.specs.PendingList.{first}
 use Rattle.gm_model.specs.Sys.{Sys}
 use Rattle.gm_model.specs.Fire.{Ran, fire_first, fire_due, timed_run}
-use Rattle.gm_model.specs.Run.{RunEnd, EndsRun, run_to, retired_in, console_of}
-use Rattle.gm_model.specs.declared.entry.Entry.{Entry}
-use Rattle.gm_model.specs.declared.goal.Goal.{Goal}
+use Rattle.gm_model.specs.Run.{RunEnd, EndsRun, run_to, retired_in}
+use Rattle.gm_words.specs.Entries.{console_of}
+use Rattle.gm_words.specs.declared.entry.Entry.{Entry}
+use Rattle.gm_words.specs.declared.goal.Goal.{Goal}
 use Rattle.gm_model.proofs.ConsoleBytes.{console-append}
 use Rattle.gm_model.proofs.RunEnds.{runs_end, budget_ends}
 use Rattle.kernel.proofs.Runs.{events_more, stopped_bytes}

@@ -5,7 +5,7 @@ use Rattle.elf_image.specs.Image.{LiesInRam}
 use Rattle.elf_image.specs.declared.image.Image.{Image}
 use Rattle.gc_outside.specs.Store.{Files}
 use Rattle.gm_model.specs.ObjState.{ObjState}
-use Rattle.gm_model.specs.Replay.{replay}
+use Rattle.gm_words.specs.Replay.{replay}
 use Rattle.gm_model.specs.Sys.{Sys}
 use Rattle.gm_model.specs.View.{program_state}
 use Rattle.kernel.specs.Build.{lacking}

@@ -1,6 +1,5 @@
 use Rattle.std.proofs.Common.{◌≡◌, ◌+◌, ◌^◌, drop}
-use Rattle.gm_model.specs.Counts.{count_entries}
-use Rattle.gm_model.specs.Sound.{IsCountedUpTo}
+use Rattle.gm_words.specs.Counts.{count_entries, IsCountedUpTo}
 use Rattle.kernel.proofs.entries.count.Given as goal
 
 -- what is still to be counted leads where all does

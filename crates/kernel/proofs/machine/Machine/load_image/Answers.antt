@@ -1,6 +1,6 @@
 use Rattle.std.proofs.Common.{◌≡◌, ◌<◌, ◌∙◌, refl, ap, subst, arith, List, get_or, length}
 use Rattle.elf_image.specs.declared.piece.Piece.{Piece}
-use Rattle.kernel.proofs.Loads.{start_zeros, piece_fits, piece_put, image_put, entered_kept, loading_drained, loaded_settled}
+use Rattle.kernel.proofs.Loads.{start_zeros, piece_fits, piece_put, image_put, loaded_sound, loading_drained, loaded_settled}
 use Rattle.kernel.proofs.machine.Machine.load_image.Goals as goal
 
 pub loop-piece-init : goal.loop-piece-init
@@ -38,7 +38,8 @@ returns-clause-loaded g c = image_put _ _ _ c.args.image.now c.loop-piece.piece-
 
 pub returns-clause-machine : goal.returns-clause-machine
 returns-clause-machine g c = record {
-  sound = entered_kept _ _ _ _ c.args.image.now.entry c.loop-piece.invariant.machine.sound c.enter.ensures.entered c.enter.ensures.table;
+  sound = loaded_sound _ _ _ _ _ c.args.image.now c.loop-piece.piece-index (omega (arith, c.loop-piece-test.false, ap length c.items-piece-items.ensures)) c.loop-piece.invariant.put
+      c.enter.ensures.entered c.loop-piece.invariant.machine.sound c.enter.ensures.table c.requires.fits;
 }
 
 pub load_piece-requires-clause-drained : goal.load_piece-requires-clause-drained

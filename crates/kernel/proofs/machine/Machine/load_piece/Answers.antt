@@ -1,9 +1,9 @@
-use Rattle.std.proofs.Common.{◌∙◌, refl, sym, ap, subst, arith, List, ℕ, length, drop, take}
+use Rattle.std.proofs.Common.{◌≡◌, true, ◌∙◌, refl, sym, ap, subst, arith, List, ℕ, length, drop, take}
 use Rattle.std.proofs.lemmas.List.{length-drop, length-take}
 use Rattle.elf_image.proofs.RamLaws.{length-bytes_of_piece}
 use Rattle.elf_image.specs.Ram.{bytes_of_piece}
 use Rattle.kernel.proofs.Loads.{block_put, raw_nothing}
-use Rattle.gm_model.specs.Drained.{IsDrained}
+use Rattle.gm_model.specs.Drained.{is_settled}
 use Rattle.gm_model.specs.Sys.{Sys}
 use Rattle.kernel.proofs.SettledLemmas.{put_drained}
 use Rattle.kernel.proofs.machine.Machine.load_piece.Goals as goal
@@ -19,7 +19,7 @@ overflow_add-done g c =
 
 pub loop-block-init : goal.loop-block-init
 loop-block-init g c = record {
-  put = sym (raw_nothing _ _ c.args.piece.now.addr c.requires.machine.sound);
+  put = sym (raw_nothing _ c.args.piece.now.addr);
   entries = refl;
   machine = c.requires.machine;
   within = omega arith;
@@ -41,5 +41,5 @@ loop-block-preserved g c =
 
 pub put_raw-requires-clause-drained : goal.put_raw-requires-clause-drained
 put_raw-requires-clause-drained g c =
-    let P : Sys → Type 0 = IsDrained in
+    let P : Sys → Type 0 = λ x. is_settled x ≡ true in
     subst P (sym c.loop-block.invariant.put) (put_drained _ c.args.piece.now.addr (take c.loop-block.done (bytes_of_piece c.args.piece.now)) c.requires.drained)
