@@ -2,7 +2,7 @@
 use Rattle.std.proofs.Common.{◌≡◌, ℕ, ◌≤◌, arith}
 use Rattle.gc_base.specs.Multiple.{IsNextMultiple}
 use Rattle.gc_base.proofs.MultipleLemmas.{next_multiple_is}
-use Rattle.gm_model.specs.HartLine.{next_multiple}
+use Rattle.gm_words.specs.HartLine.{next_multiple}
 
 -- each of two is the least
 one_number : (period tick a b : ℕ) → IsNextMultiple period tick a → IsNextMultiple period tick b → a ≡ b

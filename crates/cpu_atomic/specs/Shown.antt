@@ -2,7 +2,7 @@
 use Rattle.std.specs.Prelude.{Option, Some, None}
 use Rattle.rv_step.specs.declared.arch.Arch.{Arch}
 use Rattle.gm_model.specs.ObjState.{ObjState, Blank, AtomicCpu, AtomicCpuState}
-use Rattle.gm_model.specs.declared.kind.Kind.TheVariants as kinds
+use Rattle.gm_words.specs.declared.kind.Kind.TheVariants as kinds
 use Rattle.cpu_atomic.specs.Kept.{stage_of}
 use Rattle.cpu_atomic.specs.declared.sequencer.Sequencer.{Sequencer}
 use Rattle.cpu_atomic.specs.declared.configured.Configured.{Configured}

@@ -2,7 +2,7 @@
 // What an instruction does is the RISC-V manuals' (crate rv_step). When the next one comes is this project's own rule.
 // Not modelled: time inside an instruction, offers that may be refused, and more than one hart.
 ghost use Rattle.std.specs.Prelude.{◌≡◌};
-ghost use Rattle.gm_model.specs.declared.kind.Kind.TheVariants as kinds;
+ghost use Rattle.gm_words.specs.declared.kind.Kind.TheVariants as kinds;
 
 use crate::configured::Configured;
 use ev_queue::EventQueue;

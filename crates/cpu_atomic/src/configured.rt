@@ -1,10 +1,10 @@
 // A configured CPU.
 ghost use Rattle.std.specs.Prelude.{◌≡◌, ◌^◌, ◌≤◌, IsTrue, false, Some};
 ghost use Rattle.ev_queue.specs.SlotTable.{gave};
-ghost use Rattle.gm_model.specs.AtomicCpuStep.{cpu_event, cpu_done, cpu_lined};
-ghost use Rattle.gm_model.specs.Command.{drain_step, resume_step, is_resting, is_asleep, is_awake, is_drained};
-ghost use Rattle.gm_model.specs.HartLine.{is_line};
-ghost use Rattle.gm_model.specs.declared.own.Own.TheVariants as owns;
+ghost use Rattle.gm_model.specs.AtomicCpu.{cpu_event, cpu_done, cpu_lined, is_resting, is_asleep, is_awake};
+ghost use Rattle.gm_model.specs.Command.{drain_step, resume_step, is_drained};
+ghost use Rattle.gm_words.specs.HartLine.{is_line};
+ghost use Rattle.gm_words.specs.declared.own.Own.TheVariants as owns;
 ghost use Rattle.gc_base.specs.declared.limits.TheConstants.{PERIOD_MAX};
 ghost use Rattle.obj_core.specs.Out.{HasRoom};
 ghost use Rattle.obj_core.specs.Step.{Takes};

@@ -3,7 +3,7 @@ ghost use Rattle.std.specs.Prelude.{◌≡◌, IsTrue, IfSome};
 ghost use Rattle.ev_queue.specs.SlotTable.{gave};
 ghost use Rattle.rv_table.specs.Inst.{HasRegisters};
 ghost use Rattle.rv_table.specs.Table.{decode_of};
-ghost use Rattle.gm_model.specs.AtomicCpuStep.{cpu_ends, cpu_retires, cpu_traps};
+ghost use Rattle.gm_model.specs.AtomicCpu.{cpu_ends, cpu_retires, cpu_traps};
 ghost use Rattle.obj_core.specs.Out.{HasRoom};
 ghost use Rattle.obj_core.specs.Step.{Takes};
 

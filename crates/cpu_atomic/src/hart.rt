@@ -5,8 +5,8 @@ ghost use Rattle.rv_table.specs.Table.{decode_of};
 ghost use Rattle.rv_step.specs.Demand.{need as need_of_word, IsFit};
 ghost use Rattle.rv_step.specs.Retire.{finish as finished};
 ghost use Rattle.rv_step.specs.Trap.{enter_trap as trapped};
-ghost use Rattle.gm_model.specs.HartLine.{is_line, with_line};
-ghost use Rattle.gm_model.specs.declared.entry.Entry.TheVariants as entries;
+ghost use Rattle.gm_words.specs.HartLine.{is_line, with_line};
+ghost use Rattle.gm_words.specs.declared.entry.Entry.TheVariants as entries;
 
 use gm_model::Entry;
 use rv_step::{Arch, Demand, enter_trap, finish_of, need_of};

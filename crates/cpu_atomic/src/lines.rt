@@ -1,8 +1,8 @@
 // What an interrupt line does to a CPU.
 ghost use Rattle.std.specs.Prelude.{◌≡◌, ◌≤◌, IsTrue};
 ghost use Rattle.ev_queue.specs.SlotTable.{gave};
-ghost use Rattle.gm_model.specs.AtomicCpuStep.{cpu_line, goes_on};
-ghost use Rattle.gm_model.specs.HartLine.{is_line};
+ghost use Rattle.gm_model.specs.AtomicCpu.{cpu_line, goes_on};
+ghost use Rattle.gm_words.specs.HartLine.{is_line};
 ghost use Rattle.obj_core.specs.Out.{HasRoom};
 ghost use Rattle.obj_core.specs.Step.{Takes};
 

@@ -1,9 +1,9 @@
 // The requests of a CPU.
 ghost use Rattle.std.specs.Prelude.{◌≡◌, ◌<◌, ◌≤◌, ◌^◌, []};
 ghost use Rattle.rv_step.specs.Width.{IsSize};
-ghost use Rattle.gm_model.specs.Packet.{request as request_of};
-ghost use Rattle.gm_model.specs.Platform.{is_in_ram};
-ghost use Rattle.gm_model.specs.AtomicCpuStep.{fetch_request, load_request, store_request};
+ghost use Rattle.gm_words.specs.Packet.{request as request_of};
+ghost use Rattle.gm_words.specs.Platform.{is_in_ram};
+ghost use Rattle.gm_model.specs.Accesses.{fetch_request, load_request, store_request};
 
 use crate::octets::put_number;
 use gc_base::PktId;

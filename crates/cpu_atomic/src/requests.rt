@@ -3,8 +3,8 @@ ghost use Rattle.std.specs.Prelude.{◌≡◌, ◌^◌, ◌≤◌, IsTrue, None}
 ghost use Rattle.ev_queue.specs.SlotTable.{gave};
 ghost use Rattle.rv_step.specs.Demand.{need as need_of};
 ghost use Rattle.rv_step.specs.Trap.{interrupt_cause};
-ghost use Rattle.gm_model.specs.AtomicCpuStep.{cpu_begins, cpu_fetched, cpu_accessed};
-ghost use Rattle.gm_model.specs.Platform.{is_in_ram};
+ghost use Rattle.gm_model.specs.AtomicCpu.{cpu_begins, cpu_fetched, cpu_accessed};
+ghost use Rattle.gm_words.specs.Platform.{is_in_ram};
 ghost use Rattle.obj_core.specs.Out.{HasRoom};
 ghost use Rattle.obj_core.specs.Step.{Takes};
 

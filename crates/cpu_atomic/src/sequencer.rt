@@ -2,7 +2,7 @@
 ghost use Rattle.std.specs.Prelude.{◌≡◌, ◌+◌, ◌^◌, ◌≤◌, IsTrue, true};
 ghost use Rattle.ev_queue.specs.PendingList.{event, rescheduled};
 ghost use Rattle.ev_queue.specs.SlotTable.{gave};
-ghost use Rattle.gm_model.specs.HartLine.{next_multiple};
+ghost use Rattle.gm_words.specs.HartLine.{next_multiple};
 ghost use Rattle.gc_base.specs.declared.limits.TheConstants.{PERIOD_MAX};
 ghost use Rattle.cpu_atomic.specs.Kept.{kept_latency};
 

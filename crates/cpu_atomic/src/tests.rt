@@ -1,6 +1,6 @@
 // An atomic CPU is configured, gets the hart, goes on, and is boxed.
 ghost use Rattle.std.specs.Prelude.{◌≡◌, [], ◌∷◌, IfOk};
-ghost use Rattle.gm_model.specs.declared.own.Own.TheVariants as owns;
+ghost use Rattle.gm_words.specs.declared.own.Own.TheVariants as owns;
 
 use crate::AtomicCpu;
 use ev_queue::{EventHandle, EventQueue};

@@ -1,6 +1,6 @@
--- The example, computed.
+-- The examples, computed.
 use Rattle.std.proofs.Common.{refl}
-use Rattle.gm_model.specs.Example.{RunsStoreAndExit}
+use Rattle.gm_model.specs.Example.{RunsStoreAndExit, RunsAsTheTimerWakes}
 use Rattle.gm_model.specs.Run.{run_to, run_on}
 use Rattle.gm_model.specs.Fire.{fire}
 use Rattle.gm_model.specs.Deliver.{deliver}
@@ -13,3 +13,7 @@ use Rattle.rv_step.specs.Trap.{enter_trap, interrupt_cause}
 pub runs : RunsStoreAndExit
 unfolding run_to run_on fire deliver object_step atomic_step need need_of decode_of finish finish_of enter_trap interrupt_cause
 runs = record { events = refl; to_the_end = refl; to_a_tick = refl; to_the_budget = refl }
+
+pub wakes : RunsAsTheTimerWakes
+unfolding run_to run_on fire deliver object_step atomic_step need need_of decode_of finish finish_of enter_trap interrupt_cause
+wakes = record { events = refl; to_the_end = refl }

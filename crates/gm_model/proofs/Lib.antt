@@ -1,12 +1,2 @@
 pub mod Examples
-pub mod StepLaws
-pub mod QueueLaws
-pub mod ReplayLemmas
-pub mod ReplaySteps
-pub mod ReplayServes
-pub mod ReplayRuns
 pub mod RunEnds
-pub mod SoundParts
-pub mod SoundEvents
-pub mod ConsoleBytes
-pub mod Started

@@ -6,9 +6,9 @@ use Rattle.ev_queue.specs.PendingList.{first}
 use Rattle.gm_model.specs.Sys.{Sys}
 use Rattle.gm_model.specs.Fire.{timed_run, one_more}
 use Rattle.gm_model.specs.Run.{RunEnd, reason_for, EndsRun, RunsEnd, run_on, run_to, reason_at, exit_reason, due_reason, has_retired, retired_in, exit_of, is_late, last_tick}
-use Rattle.gm_model.specs.declared.goal.Goal.{Goal}
-use Rattle.gm_model.specs.declared.goal.Reason.{Reason}
-use Rattle.gm_model.specs.declared.goal.Reason.TheVariants as reasons
+use Rattle.gm_words.specs.declared.goal.Goal.{Goal}
+use Rattle.gm_words.specs.declared.goal.Reason.{Reason}
+use Rattle.gm_words.specs.declared.goal.Reason.TheVariants as reasons
 
 -- the budget is served, so there is a reason
 late_reason : (a b c : Bool) → c ≡ true
@@ -33,7 +33,7 @@ exit_some g n insts s None h e = insts_some g n (first s.pending) (has_retired g
 
 -- once as many events as the budget allows were served, there is a reason
 pub budget_ends : (g : Goal) (n insts : ℕ) (s : Sys) → g.budget ≤ n → reason_for g n insts s ≡ None → ⊥
-budget_ends g n insts s l e = exit_some g n insts s (exit_of s.objects) (le-leb g.budget n l) e
+budget_ends g n insts s l e = exit_some g n insts s (exit_of s) (le-leb g.budget n l) e
 
 -- no reason for the numbers below n, and none for n, is none for those up to n
 none_up_to : (g : Goal) (s : Sys) (n : ℕ) → ((k : ℕ) → k < n → reason_at g k (timed_run s k) ≡ None)
@@ -57,7 +57,7 @@ ends_case fuel n s g None r h next = next r
 ends_on : (fuel n : ℕ) (s : Sys) (g : Goal) → fuel + n ≡ suc g.budget
     → ((k : ℕ) → k < n → reason_at g k (timed_run s k) ≡ None) → EndsRun s g (run_on fuel g n (timed_run s n))
 unfolding run_on timed_run
-ends_on zero n s g e h = absurd (exit_some g g.budget (retired_in (timed_run s g.budget).entries) (timed_run s g.budget).sys (exit_of (timed_run s g.budget).sys.objects) (le-leb g.budget g.budget (omega arith)) (h g.budget (omega arith)))
+ends_on zero n s g e h = absurd (exit_some g g.budget (retired_in (timed_run s g.budget).entries) (timed_run s g.budget).sys (exit_of (timed_run s g.budget).sys) (le-leb g.budget g.budget (omega arith)) (h g.budget (omega arith)))
 ends_on (suc fuel) n s g e h =
     ends_case fuel n s g (reason_at g n (timed_run s n)) refl h
     (λ r. ends_on fuel (suc n) s g (omega arith) (none_up_to g s n h r))

@@ -1,16 +1,19 @@
 -- What one event causes: the acts of its wakes, delivered first in, first out. This project's own rule.
 use Rattle.std.specs.Prelude.{ℕ, zero, suc, ◌+◌, List, [], ◌∷◌, ◌++◌, map, Option, Some, None}
-use Rattle.gm_model.specs.Packet.{fault_response}
-use Rattle.gm_model.specs.Router.{destination}
-use Rattle.gm_model.specs.Sys.{Sys, step_at, woken, pass_at, passed, active_cpu}
-use Rattle.gm_model.specs.declared.act.Act.{Act}
-use Rattle.gm_model.specs.declared.act.Act.TheVariants as acts
-use Rattle.gm_model.specs.declared.entry.Entry.{Entry}
-use Rattle.gm_model.specs.declared.packet.Packet.{Packet}
-use Rattle.gm_model.specs.declared.wake.Wake.{Wake}
-use Rattle.gm_model.specs.declared.wake.Wake.TheVariants as wakes
-use Rattle.gm_model.specs.declared.way.Way.{Way}
-use Rattle.gm_model.specs.declared.way.Way.TheVariants as ways
+use Rattle.gm_words.specs.Packet.{fault_response}
+use Rattle.gm_words.specs.Platform.{End}
+use Rattle.gm_words.specs.Router.{destination}
+use Rattle.gm_model.specs.Sys.{Sys, peer_in, step_at, woken, pass_at, passed, active_cpu}
+use Rattle.gm_words.specs.declared.act.Act.{Act}
+use Rattle.gm_words.specs.declared.act.Act.TheVariants as acts
+use Rattle.gm_words.specs.declared.answer.Answer.{Answer}
+use Rattle.gm_words.specs.declared.answer.Answer.TheVariants as answers
+use Rattle.gm_words.specs.declared.entry.Entry.{Entry}
+use Rattle.gm_words.specs.declared.packet.Packet.{Packet}
+use Rattle.gm_words.specs.declared.wake.Wake.{Wake}
+use Rattle.gm_words.specs.declared.wake.Wake.TheVariants as wakes
+use Rattle.gm_words.specs.declared.way.Way.{Way}
+use Rattle.gm_words.specs.declared.way.Way.TheVariants as ways
 
 -- what is to be delivered: an act of a sender, or to a sender the packet that it passed on, which took a latency
 pub data Item : Type 0 where
@@ -35,34 +38,53 @@ deliver_wake d i w = record {
   entries = d.entries ++ (step_at d.sys i w).entries;
 }
 
+-- what is told to who offered
+abbrev pub told_wake : Answer → ℕ → Wake
+told_wake answers.Taken p = wakes.Taken (record { 0 = p })
+told_wake answers.Refused p = wakes.Refused (record { 0 = p })
+told_wake answers.Nothing p = wakes.Taken (record { 0 = p })
+
+-- an offer is shown to the peer, and then its answer told to the sender
+abbrev pub deliver_offer : Delivery → ℕ → ℕ → Packet → End → Delivery
+deliver_offer d i p x e =
+    let w : Wake = wakes.Offer (record { 0 = e.port }) x in
+    deliver_wake (deliver_wake d e.part w) i (told_wake (step_at d.sys e.part w).answer p)
+
 -- an interrupt line's level comes to the active CPU
-abbrev pub deliver_line : Delivery → ℕ → Wake → Option ℕ → Delivery
-deliver_line d i w None = d
-deliver_line d i w (Some cpu) = deliver_wake d cpu w
+abbrev pub deliver_line : Delivery → Wake → Option ℕ → Delivery
+deliver_line d w None = d
+deliver_line d w (Some cpu) = deliver_wake d cpu w
 
 -- the latency of a way
 abbrev pub way_latency : Way → ℕ
 way_latency (ways.Pass port latency) = latency
 way_latency (ways.Done latency) = latency
 
--- a packet of the sender i is passed to the server of its range; of no range, it is refused by fault
-abbrev pub deliver_atomic : Delivery → ℕ → Packet → Option ℕ → Delivery
-deliver_atomic d i p None = record d {
-  items = d.items ++ Done i (fault_response p p.cmd) d.sys.router.latency ∷ [];
-}
-deliver_atomic d i p (Some server) = record {
-  sys = passed d.sys server p;
-  items = d.items ++ sent_by server (pass_at d.sys server p).acts
-      ++ Done i (pass_at d.sys server p).packet (d.sys.router.latency + way_latency (pass_at d.sys server p).way) ∷ [];
-  entries = d.entries ++ (pass_at d.sys server p).entries;
+-- a part was passed a packet: its acts go to the end
+abbrev pub deliver_passed : Delivery → ℕ → Packet → Delivery
+deliver_passed d k x = record {
+  sys = passed d.sys k x;
+  items = d.items ++ sent_by k (pass_at d.sys k x).acts;
+  entries = d.entries ++ (pass_at d.sys k x).entries;
 }
 
--- one act is delivered; in atomic mode no part offers, so no port has a peer
+-- and behind them its sender is told of it
+abbrev pub done_at : Delivery → ℕ → Packet → ℕ → Delivery
+done_at d i x latency = record d { items = d.items ++ Done i x latency ∷ [] }
+
+-- a packet of the sender i is passed to the server of its range; of no range, it is refused by fault
+abbrev pub deliver_atomic : Delivery → ℕ → Packet → Option ℕ → Delivery
+deliver_atomic d i x None = done_at d i (fault_response x x.cmd) d.sys.router.latency
+deliver_atomic d i x (Some k) =
+    done_at (deliver_passed d k x) i (pass_at d.sys k x).packet (d.sys.router.latency + way_latency (pass_at d.sys k x).way)
+
+-- one act of the part i is delivered
 abbrev pub deliver_act : Delivery → ℕ → Act → Delivery
-deliver_act d i (acts.Offer port p) = d
-deliver_act d i (acts.CallRetry port) = d
-deliver_act d i (acts.SetLine bit level) = deliver_line d i (wakes.Line bit level) (active_cpu d.sys.objects)
-deliver_act d i (acts.Atomic port p) = deliver_atomic d i p (destination d.sys.router.routes p.addr)
+deliver_act d i (acts.Offer port x) = deliver_offer d i port.0 x (peer_in d.sys.wires i port.0)
+deliver_act d i (acts.CallRetry port) =
+    let e : End = peer_in d.sys.wires i port.0 in deliver_wake d e.part (wakes.Retry (record { 0 = e.port }))
+deliver_act d i (acts.SetLine bit level) = deliver_line d (wakes.Line bit level) (active_cpu d.sys.objects)
+deliver_act d i (acts.Atomic port x) = deliver_atomic d i x (destination d.sys.router.routes x.addr)
 
 -- one item is delivered
 abbrev pub handle : Delivery → Item → Delivery

@@ -1,9 +1,9 @@
 -- Where packets are, and when a machine is drained. This project's own rules.
-use Rattle.std.specs.Prelude.{◌≡◌, ℕ, ◌+◌, Bool, true, false, List, [], ◌∷◌, ◌++◌, map}
+use Rattle.std.specs.Prelude.{ℕ, ◌+◌, ◌==◌, ◌&&◌, Bool, true, false, List, [], ◌∷◌, ◌++◌, map}
 use Rattle.ev_queue.specs.declared.due.Due.{Due}
-use Rattle.gm_model.specs.Platform.{character_slot}
-use Rattle.gm_model.specs.ObjState.{ObjState, Blank, AtomicCpu, Server, Device, Memory, Uart, Exit}
-use Rattle.gm_model.specs.Command.{is_resting, is_asleep}
+use Rattle.gm_words.specs.Platform.{own_slot}
+use Rattle.gm_model.specs.ObjState.{ObjState, Blank, AtomicCpu, Server, Device, Memory, Uart, Exit, Timer}
+use Rattle.gm_model.specs.Command.{is_drained}
 use Rattle.gm_model.specs.Sys.{Sys, object_at}
 
 -- where a packet is: in the queue of a server
@@ -31,36 +31,27 @@ places_from i (o ∷ os) = places_in i o ++ places_from (i + 1) os
 abbrev pub packet_places : Sys → List PacketPlace
 packet_places s = places_from 0 s.objects
 
--- no requestor waits at a part, and a CPU stands between two instructions or sleeps
-abbrev pub IsAtRest : ObjState → Type 0
-IsAtRest (Blank k) = Unit {0}
-IsAtRest (AtomicCpu s) = Rests (is_resting s.stage) (is_asleep s.arch) where
-  Rests : Bool → Bool → Type 0
-  Rests true asleep = Unit {0}
-  Rests false true = Unit {0}
-  Rests false false = ⊥
-IsAtRest (Server s) = s.waiter ≡ false
+-- an event is one that a drained machine may have: a UART's or a timer's own
+abbrev pub is_device_event : ObjState → ℕ → Bool
+is_device_event (Blank k) slot = false
+is_device_event (AtomicCpu s) slot = false
+is_device_event (Server s) slot = has_own s.device && (slot == own_slot) where
+  has_own : Device → Bool
+  has_own (Memory m) = false
+  has_own (Uart u) = true
+  has_own (Exit code) = false
+  has_own (Timer t) = true
 
--- an event is one that a drained machine may have: that of a UART at slot 1
-abbrev pub IsDeviceEvent : ObjState → ℕ → Type 0
-IsDeviceEvent (Blank k) slot = ⊥
-IsDeviceEvent (AtomicCpu s) slot = ⊥
-IsDeviceEvent (Server s) slot = HasOwn s.device where
-  HasOwn : Device → Type 0
-  HasOwn (Memory m) = ⊥
-  HasOwn (Uart u) = slot ≡ character_slot
-  HasOwn (Exit code) = ⊥
+-- each part holds nothing that has to be served first
+abbrev pub are_drained : List ObjState → Bool
+are_drained [] = true
+are_drained (o ∷ os) = is_drained o && are_drained os
 
-abbrev pub AreAtRest : List ObjState → Type 0
-AreAtRest [] = Unit {0}
-AreAtRest (o ∷ os) = IsAtRest o × AreAtRest os
-
-abbrev pub AreDeviceEvents : Sys → List Due → Type 0
-AreDeviceEvents s [] = Unit {0}
-AreDeviceEvents s (e ∷ es) = IsDeviceEvent (object_at s e.owner.0) e.slot.0 × AreDeviceEvents s es
+-- each event is a device's own
+abbrev pub are_device_events : Sys → List Due → Bool
+are_device_events s [] = true
+are_device_events s (e ∷ es) = is_device_event (object_at s e.owner.0) e.slot.0 && are_device_events s es
 
 -- no packet is anywhere, nobody waits, no instruction is under way, and only devices' own events are pending
-pub record IsDrained (s : Sys) : Type 0 where
-  pub places : packet_places s ≡ []
-  pub rest : AreAtRest s.objects
-  pub events : AreDeviceEvents s s.pending
+abbrev pub is_settled : Sys → Bool
+is_settled s = are_drained s.objects && are_device_events s s.pending

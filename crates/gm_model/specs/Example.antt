@@ -1,4 +1,5 @@
--- A small run, computed: a program of five words stores a byte to the UART and exits. This project's own example.
+-- Two small runs, computed: a program of five words stores a byte to the UART and exits; and one of eleven words sleeps until the timer
+-- wakes it. This project's own examples.
 use Rattle.std.specs.Prelude.{◌≡◌, ℕ, zero, suc, false, List, [], ◌∷◌, ◌++◌, Option, Some, None}
 use Rattle.ev_queue.specs.declared.due.Due.{Due}
 use Rattle.ev_queue.specs.PendingList.{first}
@@ -6,12 +7,13 @@ use Rattle.rv_step.specs.Bytes.{bytes_of}
 use Rattle.rv_step.specs.FlatMem.{ram_base}
 use Rattle.gm_model.specs.Sys.{Sys}
 use Rattle.gm_model.specs.Fire.{fire_first}
-use Rattle.gm_model.specs.Run.{RunEnd, run_to, retired_in, console_of}
+use Rattle.gm_model.specs.Run.{RunEnd, run_to, retired_in}
+use Rattle.gm_words.specs.Entries.{console_of}
 use Rattle.gm_model.specs.Start.{start_state, resumed_state, ram_with_front}
 use Rattle.cfg_tree.specs.declared.config.Config.{Config}
-use Rattle.gm_model.specs.declared.goal.Reason.{Reason}
-use Rattle.gm_model.specs.declared.goal.Reason.TheVariants as reasons
-use Rattle.gm_model.specs.declared.goal.Until.TheVariants as untils
+use Rattle.gm_words.specs.declared.goal.Reason.{Reason}
+use Rattle.gm_words.specs.declared.goal.Reason.TheVariants as reasons
+use Rattle.gm_words.specs.declared.goal.Until.TheVariants as untils
 
 -- a machine in atomic mode, with RAM of 64 bytes
 abbrev pub small_config : Config
@@ -39,9 +41,19 @@ abbrev pub store_and_exit : List ℕ
 store_and_exit =
     bytes_of 4 0x10000537 ++ bytes_of 4 0x00100293 ++ bytes_of 4 0x00550023 ++ bytes_of 4 0x001005b7 ++ bytes_of 4 0x0005a023
 
--- the machine with that program, resumed
+-- lui x10, 0x2004; addi x5, x0, 200; auipc x7, 0; sd x5, 40(x7); ld x5, 40(x7); sd x5, 0(x10); addi x6, x0, 128; csrrs x0, mie, x6; wfi;
+-- lui x11, 0x100; sw x0, 0(x11)
+abbrev pub sleep_and_exit : List ℕ
+sleep_and_exit =
+    bytes_of 4 0x02004537 ++ bytes_of 4 0x0c800293 ++ bytes_of 4 0x00000397 ++ bytes_of 4 0x0253b423 ++ bytes_of 4 0x0283b283 ++ bytes_of 4 0x00553023
+    ++ bytes_of 4 0x08000313 ++ bytes_of 4 0x30432073 ++ bytes_of 4 0x10500073 ++ bytes_of 4 0x001005b7 ++ bytes_of 4 0x0005a023
+
+-- the machine with a program, resumed
+abbrev pub machine_with : List ℕ → Sys
+machine_with program = resumed_state (start_state small_config ram_base (ram_with_front 64 program))
+
 abbrev pub small_machine : Sys
-small_machine = resumed_state (start_state small_config ram_base (ram_with_front 64 store_and_exit))
+small_machine = machine_with store_and_exit
 
 -- how a run ended: why, at which tick, after how many instructions and events, and what the console got
 pub record Report : Type 0 where
@@ -72,10 +84,18 @@ events_served (suc n) s = due_place (first s.pending) ∷ events_served n (fire_
 
 -- the program runs to its end, which a goal at an earlier tick and a budget of three events cut short
 pub record RunsStoreAndExit : Type 0 where
-  pub events : events_served 6 small_machine ≡ (1000, 0) ∷ (2700, 0) ∷ (4400, 0) ∷ (5400, 3) ∷ (6500, 0) ∷ (8200, 0) ∷ []
+  pub events : events_served 6 small_machine ≡ (1000, 0) ∷ (2700, 0) ∷ (4400, 0) ∷ (5400, 4) ∷ (6500, 0) ∷ (8200, 0) ∷ []
   pub to_the_end : report_of (run_to small_machine (record { until = untils.End; budget = 1000000 }))
       ≡ record { reason = reasons.Exit 0; tick = 8200; insts = 5; events = 6; console = 1 ∷ [] }
   pub to_a_tick : report_of (run_to small_machine (record { until = untils.Tick 999; budget = 1000000 }))
       ≡ record { reason = reasons.Tick; tick = 0; insts = 0; events = 0; console = [] }
   pub to_the_budget : report_of (run_to small_machine (record { until = untils.End; budget = 3 }))
       ≡ record { reason = reasons.Limit; tick = 4400; insts = 3; events = 3; console = 1 ∷ [] }
+
+-- the number for the timer goes through memory; the hart sleeps from tick 16400 on; at tick 20000 the clock, with a period of 100 ticks,
+-- comes to 200; and the hart goes on at the next multiple of its own period
+pub record RunsAsTheTimerWakes : Type 0 where
+  pub events : events_served 12 (machine_with sleep_and_exit)
+      ≡ (1000, 0) ∷ (2700, 0) ∷ (4400, 0) ∷ (6100, 0) ∷ (8500, 0) ∷ (10900, 0) ∷ (13000, 0) ∷ (14700, 0) ∷ (16400, 0) ∷ (20000, 3) ∷ (21000, 0) ∷ (22700, 0) ∷ []
+  pub to_the_end : report_of (run_to (machine_with sleep_and_exit) (record { until = untils.End; budget = 1000000 }))
+      ≡ record { reason = reasons.Exit 0; tick = 22700; insts = 11; events = 12; console = [] }

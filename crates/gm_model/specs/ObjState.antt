@@ -1,9 +1,11 @@
 -- The states of the parts: one record for each kind, with plain lists and numbers. This project's own rules.
-use Rattle.std.specs.Prelude.{ℕ, Bool, List, Option}
+use Rattle.std.specs.Prelude.{ℕ, Bool, true, false, List, [], Option}
 use Rattle.rv_step.specs.declared.arch.Arch.{Arch}
-use Rattle.gm_model.specs.Flow.{Flow}
-use Rattle.gm_model.specs.declared.kind.Kind.{Kind}
-use Rattle.gm_model.specs.declared.kind.Kind.TheVariants as kinds
+use Rattle.gm_words.specs.Flow.{Flow}
+use Rattle.gm_words.specs.Platform.{slot_classes}
+use Rattle.gm_words.specs.declared.params.Params.{Params}
+use Rattle.gm_words.specs.declared.kind.Kind.{Kind}
+use Rattle.gm_words.specs.declared.kind.Kind.TheVariants as kinds
 
 -- what each part has: its number, the sizes of a line and of RAM, the mode, and whether it is draining
 pub record Common : Type 0 where
@@ -12,6 +14,10 @@ pub record Common : Type 0 where
   pub ram : ℕ
   pub timing : Bool
   pub draining : Bool
+
+-- at its start a part is draining and in atomic mode
+abbrev pub common_start : Params → Common
+common_start p = record { object = p.object.0; line = p.line; ram = p.ram; timing = false; draining = true }
 
 -- where an atomic CPU stands: between two instructions, or before the response to a fetch, or to the data access of the
 -- word, with the latency of its fetch
@@ -34,11 +40,20 @@ pub record UartState : Type 0 where
   pub busy : Bool
   pub input : List ℕ
 
--- what a server serves: RAM's bytes, a UART, or an exit device with the number that it keeps
+-- a timer: how long its clock's period is, the level of the software line, the number with which its clock is compared, and the level
+-- of the clock's line
+pub record TimerState : Type 0 where
+  pub period : ℕ
+  pub msip : Bool
+  pub compare : ℕ
+  pub level : Bool
+
+-- what a server serves: RAM's bytes, a UART, an exit device with the number that it keeps, or a timer
 pub data Device : Type 0 where
   Memory : (bytes : List ℕ) → Device
   Uart : UartState → Device
   Exit : (code : Option ℕ) → Device
+  Timer : TimerState → Device
 
 -- a server: how long one request takes, how many places its queue has, the queue, whether a requestor that was refused
 -- waits, and the device
@@ -61,6 +76,7 @@ abbrev pub device_kind : Device → Kind
 device_kind (Memory bytes) = kinds.Mem
 device_kind (Uart u) = kinds.Uart
 device_kind (Exit code) = kinds.Exit
+device_kind (Timer t) = kinds.Timer
 
 -- the kind of a part
 abbrev pub kind_of : ObjState → Kind
@@ -79,3 +95,15 @@ abbrev pub IsBlank : ObjState → Type 0
 IsBlank (Blank k) = Unit {0}
 IsBlank (AtomicCpu s) = ⊥
 IsBlank (Server s) = ⊥
+
+-- the classes of its slots; a blank one has none yet
+abbrev pub slots_of : ObjState → List ℕ
+slots_of (Blank k) = []
+slots_of (AtomicCpu s) = slot_classes kinds.AtomicCpu
+slots_of (Server s) = slot_classes (device_kind s.device)
+
+-- how long it takes for a packet that is passed to it
+abbrev pub latency_of : ObjState → ℕ
+latency_of (Blank k) = 0
+latency_of (AtomicCpu s) = 0
+latency_of (Server s) = s.latency

@@ -2,19 +2,18 @@
 use Rattle.std.specs.Prelude.{◌≡◌, ℕ, zero, suc, ◌+◌, ◌<◌, ◌==◌, nat_lt, nat_le, ◌&&◌, Bool, false, not, if◌then◌else◌, List, [], ◌∷◌, ◌++◌, take, Option, Some, None}
 use Rattle.ev_queue.specs.declared.due.Due.{Due}
 use Rattle.ev_queue.specs.PendingList.{first}
-use Rattle.rv_step.specs.Flat.{uart_base}
-use Rattle.gm_model.specs.Platform.{data_source}
-use Rattle.gm_model.specs.ObjState.{ObjState}
 use Rattle.gm_model.specs.Command.{exit_code}
-use Rattle.gm_model.specs.Sys.{Sys}
+use Rattle.gm_model.specs.Sys.{Sys, object_at}
 use Rattle.gm_model.specs.Fire.{Ran, not_begun, one_more, timed_run}
-use Rattle.gm_model.specs.declared.entry.Entry.{Entry}
-use Rattle.gm_model.specs.declared.entry.Entry.TheVariants as entries
-use Rattle.gm_model.specs.declared.goal.Goal.{Goal}
-use Rattle.gm_model.specs.declared.goal.Reason.{Reason}
-use Rattle.gm_model.specs.declared.goal.Reason.TheVariants as reasons
-use Rattle.gm_model.specs.declared.goal.Until.{Until}
-use Rattle.gm_model.specs.declared.goal.Until.TheVariants as untils
+use Rattle.rv_step.specs.Flat.{exit_base}
+use Rattle.gm_words.specs.Router.{destination}
+use Rattle.gm_words.specs.declared.entry.Entry.{Entry}
+use Rattle.gm_words.specs.declared.entry.Entry.TheVariants as entries
+use Rattle.gm_words.specs.declared.goal.Goal.{Goal}
+use Rattle.gm_words.specs.declared.goal.Reason.{Reason}
+use Rattle.gm_words.specs.declared.goal.Reason.TheVariants as reasons
+use Rattle.gm_words.specs.declared.goal.Until.{Until}
+use Rattle.gm_words.specs.declared.goal.Until.TheVariants as untils
 
 -- the greatest tick at which a run serves an event, 2^62
 abbrev pub last_tick : ℕ
@@ -34,30 +33,13 @@ retired_in (e ∷ es) = retired_by e + retired_in es where
   retired_by (entries.Miss object) = 0
   retired_by (entries.Refused object) = 0
 
--- the bytes that an entry brings to the console: a byte that the hart writes at the UART's offset 0, unrefused
-abbrev pub console_bytes : Entry → List ℕ
-console_bytes (entries.Served src id write addr size bytes device fault) =
-    if (src == data_source) && write && (addr == uart_base) && (size == 1) && not fault then take 1 bytes else []
-console_bytes (entries.Retired pc word) = []
-console_bytes (entries.Trapped cause tval) = []
-console_bytes (entries.Line bit level) = []
-console_bytes entries.Slept = []
-console_bytes (entries.Hit object) = []
-console_bytes (entries.Miss object) = []
-console_bytes (entries.Refused object) = []
+-- the number with which the guest has exited, if it has: the part that serves the exit device's addresses keeps it
+abbrev pub code_at : Sys → Option ℕ → Option ℕ
+code_at s None = None
+code_at s (Some k) = exit_code (object_at s k)
 
--- the bytes that entries bring to the console
-abbrev pub console_of : List Entry → List ℕ
-console_of [] = []
-console_of (e ∷ es) = console_bytes e ++ console_of es
-
--- the number with which the guest has exited, if it has
-abbrev pub exit_of : List ObjState → Option ℕ
-exit_of [] = None
-exit_of (o ∷ os) = first_code (exit_code o) (exit_of os) where
-  first_code : Option ℕ → Option ℕ → Option ℕ
-  first_code (Some n) later = Some n
-  first_code None later = later
+abbrev pub exit_of : Sys → Option ℕ
+exit_of s = code_at s (destination s.router.routes exit_base)
 
 -- as many instructions have retired as were asked for
 abbrev pub has_retired : Until → ℕ → Bool
@@ -90,7 +72,7 @@ exit_reason g n insts s (Some code) = Some (reasons.Exit code)
 exit_reason g n insts s None = if has_retired g.until insts then Some reasons.Insts else due_reason g n (first s.pending)
 
 abbrev pub reason_for : Goal → ℕ → ℕ → Sys → Option Reason
-reason_for g n insts s = exit_reason g n insts s (exit_of s.objects)
+reason_for g n insts s = exit_reason g n insts s (exit_of s)
 
 -- why the run r of n events ends, if it does
 abbrev pub reason_at : Goal → ℕ → Ran → Option Reason

@@ -1,46 +1,32 @@
 -- How a machine begins: built, loaded with an image, resumed. This project's own rules.
-use Rattle.std.specs.Prelude.{ℕ, ◌+◌, ◌-◌, Bool, true, false, List, [], ◌∷◌, ◌++◌, length, map, replicate, Option, Some, None}
+use Rattle.std.specs.Prelude.{ℕ, ◌+◌, ◌-◌, Bool, true, false, List, [], ◌∷◌, ◌++◌, length, map, replicate, Some}
 use Rattle.ev_queue.specs.declared.due.Due.{Due}
 use Rattle.rv_step.specs.Arch.{reset}
 use Rattle.rv_step.specs.FlatMem.{ram_base}
-use Rattle.gm_model.specs.Platform.{Part, platform}
-use Rattle.gm_model.specs.Router.{router_of}
-use Rattle.gm_model.specs.Counts.{no_counts}
-use Rattle.gm_model.specs.ObjState.{ObjState, Blank, object_of}
-use Rattle.gm_model.specs.Stepped.{Commanded, changed}
+use Rattle.gm_words.specs.Platform.{Part, platform, wires_of}
+use Rattle.gm_words.specs.Router.{router_of}
+use Rattle.gm_words.specs.Counts.{no_counts}
+use Rattle.gm_model.specs.ObjState.{ObjState, object_of}
+use Rattle.gm_words.specs.Changes.{changed}
+use Rattle.gm_model.specs.Stepped.{Commanded}
 use Rattle.gm_model.specs.Command.{start_of, with_own_bytes, with_arch, drain_step, resume_step}
 use Rattle.gm_model.specs.Sys.{Sys}
 use Rattle.cfg_tree.specs.declared.config.Config.{Config}
-use Rattle.gm_model.specs.declared.kind.Kind.{Kind}
-use Rattle.gm_model.specs.declared.kind.Kind.TheVariants as kinds
-use Rattle.gm_model.specs.declared.own.Own.{Own}
-use Rattle.gm_model.specs.declared.own.Own.TheVariants as owns
-use Rattle.gm_model.specs.declared.params.Params.{Params}
-
--- what a part of a kind that is built is configured with
-abbrev pub own_of : Config → Kind → Option Own
-own_of c kinds.AtomicCpu = Some (owns.AtomicCpu c.cpu_period)
-own_of c kinds.Mem = Some (owns.Mem c.mem_latency c.mem_queue)
-own_of c kinds.Uart = Some (owns.Uart c.uart_latency c.uart_chartime)
-own_of c kinds.Exit = Some (owns.Exit c.exit_latency)
-own_of c kinds.TimingCpu = None
-own_of c kinds.Xbar = None
-own_of c kinds.Cache = None
-own_of c kinds.Timer = None
-own_of c kinds.Dma = None
+use Rattle.gm_words.specs.declared.own.Own.{Own}
+use Rattle.gm_words.specs.declared.params.Params.{Params}
 
 -- the params of the object i
 abbrev pub params_of : Config → ℕ → Own → Params
 params_of c i own = record { object = record { 0 = i }; line = c.system_line; ram = c.system_ram; own = own }
 
--- the object i of a kind at its start
-abbrev pub built_object : Config → ℕ → Kind → ObjState
-built_object c i k = elim (own_of c k) [ Some own ↦ start_of (params_of c i own) own | None ↦ Blank k ]
+-- the part i at its start
+abbrev pub built_object : Config → ℕ → Part → ObjState
+built_object c i p = start_of (params_of c i p.own) p.own
 
 -- the parts from a number on, each at its start
 abbrev pub built_objects : Config → ℕ → List Part → List ObjState
 built_objects c i [] = []
-built_objects c i (p ∷ ps) = built_object c i p.kind ∷ built_objects c (i + 1) ps
+built_objects c i (p ∷ ps) = built_object c i p ∷ built_objects c (i + 1) ps
 
 -- the hart is reset in the CPU of the configured mode
 abbrev pub cpu_started : ℕ → Bool → ObjState → ObjState
@@ -62,6 +48,7 @@ start_state c entry ram = record {
   rebased = 0;
   trace = false;
   draining = true;
+  wires = wires_of (platform c);
   router = router_of c;
 }
 

@@ -1,37 +1,18 @@
 -- What a rule of a part gives: its new state and what it asks for. This project's own rules.
-use Rattle.std.specs.Prelude.{ℕ, List, [], ◌∷◌}
-use Rattle.ev_queue.specs.declared.due.Due.{Due}
-use Rattle.ev_queue.specs.PendingList.{event, rescheduled, without}
+use Rattle.std.specs.Prelude.{ℕ, Bool, true, false, List, [], ◌∷◌}
+use Rattle.gm_words.specs.Changes.{Change}
+use Rattle.gm_words.specs.Moves.{Moves, no_moves}
 use Rattle.gm_model.specs.ObjState.{ObjState}
-use Rattle.gm_model.specs.declared.act.Act.{Act}
-use Rattle.gm_model.specs.declared.answer.Answer.{Answer}
-use Rattle.gm_model.specs.declared.answer.Answer.TheVariants as answers
-use Rattle.gm_model.specs.declared.entry.Entry.{Entry}
-use Rattle.gm_model.specs.declared.packet.Packet.{Packet}
-use Rattle.gm_model.specs.declared.way.Way.{Way}
-
--- a change to an event of the part's own: it is scheduled as new, in place of the one that was pending, or it is removed
-pub data Change : Type 0 where
-  Schedule : (slot class at : ℕ) → Change
-  Remove : (slot : ℕ) → Change
-
--- the slot whose event it changes
-abbrev pub slot_of : Change → ℕ
-slot_of (Schedule slot class at) = slot
-slot_of (Remove slot) = slot
-
--- the pending events after one change by the object
-abbrev pub changed_by : ℕ → List Due → Change → List Due
-changed_by object es (Schedule slot class at) = rescheduled es (event at class object slot)
-changed_by object es (Remove slot) = without es object slot
-
--- the pending events after the object's changes, in order
-abbrev pub changed : ℕ → List Due → List Change → List Due
-changed object es [] = es
-changed object es (c ∷ cs) = changed object (changed_by object es c) cs
+use Rattle.gm_words.specs.declared.act.Act.{Act}
+use Rattle.gm_words.specs.declared.act.Act.TheVariants as acts
+use Rattle.gm_words.specs.declared.answer.Answer.{Answer}
+use Rattle.gm_words.specs.declared.answer.Answer.TheVariants as answers
+use Rattle.gm_words.specs.declared.entry.Entry.{Entry}
+use Rattle.gm_words.specs.declared.packet.Packet.{Packet}
+use Rattle.gm_words.specs.declared.way.Way.{Way}
 
 -- what a wake gives: the new state, the next packet number, the changes to own events, and in order what is asked for
--- and what is noted; and the answer
+-- and what is noted; the answer; and the packets that came to be and to an end
 pub record Stepped : Type 0 where
   pub state : ObjState
   pub next : ℕ
@@ -39,10 +20,26 @@ pub record Stepped : Type 0 where
   pub acts : List Act
   pub entries : List Entry
   pub answer : Answer
+  pub moves : Moves
+
+-- a line of the hart changes from one level to another, or stays as it is
+abbrev pub line_change : ℕ → Bool → Bool → List Act
+line_change bit false false = []
+line_change bit true true = []
+line_change bit false true = acts.SetLine bit true ∷ []
+line_change bit true false = acts.SetLine bit false ∷ []
 
 -- nothing happens
 abbrev pub stays : ObjState → ℕ → Stepped
-stays s next = record { state = s; next = next; changes = []; acts = []; entries = []; answer = answers.Nothing }
+stays s next = record { state = s; next = next; changes = []; acts = []; entries = []; answer = answers.Nothing; moves = no_moves }
+
+-- and besides it consumes a response
+abbrev pub answering : Packet → Stepped → Stepped
+answering p r = record r { moves = record r.moves { answered = p ∷ [] } }
+
+-- a packet that comes is taken, and ends here
+abbrev pub drops : ObjState → ℕ → Packet → Stepped
+drops s next p = answering p (stays s next)
 
 -- what a packet that is passed on at once gives: also the packet afterwards, and its way
 pub record Passed : Type 0 where

@@ -1,19 +1,21 @@
 -- The machine as one value, and what a wake or a packet does to it. This project's own rules.
 use Rattle.std.specs.Prelude.{ℕ, ◌+◌, Bool, if◌then◌else◌, is_some, List, [], ◌∷◌, slice_index_or, slice_set, Option, Some, None}
 use Rattle.ev_queue.specs.declared.due.Due.{Due}
-use Rattle.gm_model.specs.Counts.{Counts}
-use Rattle.gm_model.specs.Router.{Router}
-use Rattle.gm_model.specs.ObjState.{ObjState, Blank, object_of}
+use Rattle.gm_words.specs.Counts.{Counts}
+use Rattle.gm_words.specs.Platform.{End}
+use Rattle.gm_words.specs.Router.{Router}
+use Rattle.gm_model.specs.ObjState.{ObjState, Blank}
+use Rattle.gm_words.specs.Changes.{Change, changed}
 use Rattle.gm_model.specs.Command.{arch_of}
-use Rattle.gm_model.specs.Stepped.{Stepped, Passed, Change, changed}
+use Rattle.gm_model.specs.Stepped.{Stepped, Passed}
 use Rattle.gm_model.specs.ObjectStep.{object_step, atomic_step}
-use Rattle.gm_model.specs.declared.kind.Kind.TheVariants as kinds
-use Rattle.gm_model.specs.declared.packet.Packet.{Packet}
-use Rattle.gm_model.specs.declared.wake.Wake.{Wake}
+use Rattle.gm_words.specs.declared.kind.Kind.TheVariants as kinds
+use Rattle.gm_words.specs.declared.packet.Packet.{Packet}
+use Rattle.gm_words.specs.declared.wake.Wake.{Wake}
 
 -- the tick, the pending events in service order, the objects in the order of their paths, the next packet number, what
--- was counted since the last rebase, the tick of that, whether events are traced, whether the machine is draining, and
--- the way of packets in atomic mode
+-- was counted since the last rebase, the tick of that, whether events are traced, whether the machine is draining; and what
+-- never changes: for each object the peers of its ports, and the way of packets in atomic mode
 pub record Sys : Type 0 where
   pub tick : ℕ
   pub pending : List Due
@@ -23,7 +25,12 @@ pub record Sys : Type 0 where
   pub rebased : ℕ
   pub trace : Bool
   pub draining : Bool
+  pub wires : List (List End)
   pub router : Router
+
+-- the peer of a port; one that isn't wired is its own
+abbrev pub peer_in : List (List End) → ℕ → ℕ → End
+peer_in wires k p = slice_index_or (slice_index_or wires k []) p (record { part = k; port = p })
 
 -- the state of an object
 abbrev pub object_at : Sys → ℕ → ObjState
@@ -32,7 +39,7 @@ object_at s i = slice_index_or s.objects i (Blank kinds.AtomicCpu)
 -- the machine where the object i has a new state, and its events are changed
 abbrev pub with_object : Sys → ℕ → ObjState → List Change → Sys
 with_object s i state changes = record s {
-  pending = changed (object_of (object_at s i)) s.pending changes;
+  pending = changed i s.pending changes;
   objects = slice_set s.objects i state;
 }
 

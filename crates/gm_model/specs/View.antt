@@ -1,72 +1,89 @@
 -- What a load would see now, and the program's state in the middle of a machine. This project's own rules.
-use Rattle.std.specs.Prelude.{ℕ, ◌==◌, if◌then◌else◌, List, [], ◌∷◌, Option, Some, None}
+use Rattle.std.specs.Prelude.{ℕ, zero, suc, Bool, true, false, if◌then◌else◌, List, [], ◌∷◌, ◌++◌, Option, Some, None}
 use Rattle.rv_step.specs.declared.arch.Arch.{Arch}
 use Rattle.rv_step.specs.Arch.{reset}
-use Rattle.rv_step.specs.FlatMem.{ram_put, ram_byte}
-use Rattle.gm_model.specs.Packet.{carried_bytes, carried_number, is_response, response_number}
-use Rattle.gm_model.specs.Flow.{Queued}
-use Rattle.gm_model.specs.ObjState.{ObjState, Blank, AtomicCpu, Server, ServerState, CpuStage, Rest, AwaitFetch, AwaitData, Device, Memory, Uart, Exit}
+use Rattle.rv_step.specs.FlatMem.{ram_byte}
+use Rattle.gm_words.specs.Packet.{carried_number, is_response, response_number}
+use Rattle.gm_model.specs.ObjState.{ObjState, Blank, AtomicCpu, Server, CpuStage, Rest, AwaitFetch, AwaitData, Device, Memory, Uart, Exit, Timer}
+use Rattle.gm_words.specs.Flow.{Queued}
+use Rattle.gm_words.specs.Router.{Route, is_unmapped}
 use Rattle.gm_model.specs.Command.{own_bytes}
-use Rattle.gm_model.specs.Router.{Route, is_unmapped}
-use Rattle.gm_model.specs.Sys.{Sys, object_at, active_cpu}
+use Rattle.gm_model.specs.Sys.{Sys}
 use Rattle.gm_model.specs.Deliver.{Item, Sent, Done}
-use Rattle.gm_model.specs.Replay.{Progress, AtBoundary, Fetched, Accessed, Faulted, ProgramState}
-use Rattle.gm_model.specs.declared.act.Act.TheVariants as acts
-use Rattle.gm_model.specs.declared.cmd.Cmd.{Cmd}
-use Rattle.gm_model.specs.declared.cmd.Cmd.TheVariants as cmds
-use Rattle.gm_model.specs.declared.packet.Packet.{Packet}
+use Rattle.gm_words.specs.Replay.{Progress, AtBoundary, Fetched, Accessed, Faulted, ProgramState}
+use Rattle.gm_words.specs.declared.act.Act.{Act}
+use Rattle.gm_words.specs.declared.act.Act.TheVariants as acts
+use Rattle.gm_words.specs.declared.packet.Packet.{Packet}
 
--- memory with the bytes of a packet, if it is a write-back
-abbrev pub written_back : List ℕ → Packet → Cmd → List ℕ
-written_back m p cmds.WriteBack = ram_put m p.addr (carried_bytes p)
-written_back m p cmds.Read = m
-written_back m p cmds.Write = m
-written_back m p cmds.ReadResp = m
-written_back m p cmds.WriteResp = m
+-- the packets of a queue
+abbrev pub queued_packets : List Queued → List Packet
+queued_packets [] = []
+queued_packets (q ∷ qs) = q.packet ∷ queued_packets qs
 
--- memory with the write-backs of a queue, oldest first
-abbrev pub with_queued : List ℕ → List Queued → List ℕ
-with_queued m [] = m
-with_queued m (q ∷ qs) = with_queued (written_back m q.packet q.packet.cmd) qs
+-- the packets that a part holds
+unfoldable pub packets_in : ObjState → List Packet
+packets_in (Blank k) = []
+packets_in (AtomicCpu s) = []
+packets_in (Server s) = queued_packets s.flow.items
 
--- the bytes that a device shows, where it is memory
-abbrev pub device_view : ServerState → Device → Option (List ℕ)
-device_view s (Memory m) = Some (with_queued m s.flow.items)
-device_view s (Uart u) = None
-device_view s (Exit code) = None
+abbrev pub part_packets : List ObjState → List Packet
+part_packets [] = []
+part_packets (o ∷ os) = packets_in o ++ part_packets os
 
--- the bytes that a part shows, where it is memory
-abbrev pub part_view : ObjState → Option (List ℕ)
-part_view (Blank k) = None
-part_view (AtomicCpu s) = None
-part_view (Server s) = device_view s s.device
+-- a packet that is passed at once stands in what is to be delivered; one that is offered is still with who offers it
+abbrev pub act_packets : Act → List Packet
+act_packets (acts.Atomic port x) = x ∷ []
+act_packets (acts.Offer port x) = []
+act_packets (acts.CallRetry port) = []
+act_packets (acts.SetLine bit level) = []
 
--- the first part's that shows any
-abbrev pub parts_view : List ObjState → List ℕ
-parts_view [] = []
-parts_view (o ∷ os) = elim (part_view o) [ Some m ↦ m | None ↦ parts_view os ]
+abbrev pub item_packets : List Item → List Packet
+item_packets [] = []
+item_packets (Sent i a ∷ is) = act_packets a ++ item_packets is
+item_packets (Done i x latency ∷ is) = x ∷ item_packets is
 
--- RAM as a load would see it
-abbrev pub view_ram : Sys → List ℕ
-view_ram s = parts_view s.objects
+-- all packets that are under way
+abbrev pub all_packets : Sys → List Item → List Packet
+all_packets s items = part_packets s.objects ++ item_packets items
 
--- the byte that a load would see at an address, if it is in RAM
-abbrev pub view_byte : Sys → ℕ → Option ℕ
-view_byte s address = ram_byte (view_ram s) address
+-- the sources of the hart: fetches and data accesses
+abbrev pub is_of_hart : ℕ → Bool
+is_of_hart zero = true
+is_of_hart (suc zero) = true
+is_of_hart (suc (suc n)) = false
 
--- the bytes that the first part keeps which keeps any: RAM's own
-abbrev pub own_ram : List ObjState → List ℕ
-own_ram [] = []
-own_ram (o ∷ os) = elim (own_bytes o) [ Some m ↦ m | None ↦ own_ram os ]
+-- the first that the hart waits for
+abbrev pub awaited : List Packet → Option Packet
+awaited [] = None
+awaited (x ∷ xs) = if is_of_hart x.src then Some x else awaited xs
 
--- the packet that the CPU i awaits, as it is now: passed on, or served
-abbrev pub awaited_packet : ℕ → List Item → Option Packet
-awaited_packet i [] = None
-awaited_packet i (Sent j (acts.Atomic port p) ∷ is) = if j == i then Some p else awaited_packet i is
-awaited_packet i (Sent j (acts.Offer port p) ∷ is) = awaited_packet i is
-awaited_packet i (Sent j (acts.CallRetry port) ∷ is) = awaited_packet i is
-awaited_packet i (Sent j (acts.SetLine bit level) ∷ is) = awaited_packet i is
-awaited_packet i (Done j p latency ∷ is) = if j == i then Some p else awaited_packet i is
+-- where the hart stands, whichever CPU it is in: between two instructions; its fetch is under way; the word was fetched; and
+-- the word's access is under way
+pub data Doing : Type 0 where
+  Boundary : Doing
+  Fetching : Doing
+  Decoded : (word : ℕ) → Doing
+  Accessing : (word : ℕ) → Doing
+
+abbrev pub atomic_doing : CpuStage → Doing
+atomic_doing Rest = Boundary
+atomic_doing AwaitFetch = Fetching
+atomic_doing (AwaitData w latency) = Accessing w
+
+-- the hart, and where it stands
+pub record Mind : Type 0 where
+  pub arch : Arch
+  pub doing : Doing
+
+abbrev pub mind_with : Doing → Option Arch → Option Mind
+mind_with d None = None
+mind_with d (Some a) = Some (record { arch = a; doing = d })
+
+-- those of the active CPU
+unfoldable pub mind_of : ObjState → Option Mind
+mind_of (Blank k) = None
+mind_of (AtomicCpu s) = mind_with (atomic_doing s.stage) s.arch
+mind_of (Server s) = None
 
 -- the progress of a fetch
 abbrev pub fetch_progress : Option Packet → Progress
@@ -81,37 +98,52 @@ data_progress rs w (Some p) =
     then (if is_unmapped rs p.addr then Fetched w else if p.fault then Faulted w else Accessed w (response_number p p.cmd))
     else Fetched w
 
--- the progress of the current instruction, by the CPU's stage and the packet that it awaits
-abbrev pub stage_progress : List Route → Option Packet → CpuStage → Progress
-stage_progress rs p Rest = AtBoundary
-stage_progress rs p AwaitFetch = fetch_progress p
-stage_progress rs p (AwaitData w latency) = data_progress rs w p
+-- the progress of the current instruction, by where the hart stands and the packet that it waits for
+abbrev pub progress_of : List Route → Doing → Option Packet → Progress
+progress_of rs Boundary x = AtBoundary
+progress_of rs Fetching x = fetch_progress x
+progress_of rs (Decoded w) x = Fetched w
+progress_of rs (Accessing w) x = data_progress rs w x
 
--- the progress in a part, where it is a CPU
-abbrev pub part_progress : List Route → Option Packet → ObjState → Progress
-part_progress rs p (Blank k) = AtBoundary
-part_progress rs p (AtomicCpu s) = stage_progress rs p s.stage
-part_progress rs p (Server s) = AtBoundary
+-- RAM's bytes, where the part is memory
+abbrev pub device_view : Device → Option (List ℕ)
+device_view (Memory m) = Some m
+device_view (Uart u) = None
+device_view (Exit code) = None
+device_view (Timer t) = None
 
--- the hart in a part; where there is none, a reset one stands for it
-abbrev pub part_arch : ObjState → Arch
-part_arch (Blank k) = reset 0
-part_arch (AtomicCpu s) = elim s.arch [ Some a ↦ a | None ↦ reset 0 ]
-part_arch (Server s) = reset 0
+unfoldable pub memory_of : ObjState → Option (List ℕ)
+memory_of (Blank k) = None
+memory_of (AtomicCpu s) = None
+memory_of (Server s) = device_view s.device
 
--- the program's state where the object i is the active CPU
-abbrev pub state_of_cpu : Sys → List Item → ℕ → ProgramState
-state_of_cpu s items i = record {
-  arch = part_arch (object_at s i);
-  progress = part_progress s.router.routes (awaited_packet i items) (object_at s i);
-  memory = view_ram s;
-}
+-- the first part's that shows any
+abbrev pub parts_view : List ObjState → List ℕ
+parts_view [] = []
+parts_view (o ∷ os) = elim (memory_of o) [ Some m ↦ m | None ↦ parts_view os ]
 
--- the program's state in the middle of an event, with what is still to be delivered
-abbrev pub state_within : Sys → List Item → Option ℕ → ProgramState
-state_within s items (Some i) = state_of_cpu s items i
-state_within s items None = record { arch = reset 0; progress = AtBoundary; memory = view_ram s }
+-- RAM as a load would see it
+abbrev pub view_ram : Sys → List ℕ
+view_ram s = parts_view s.objects
+
+-- the byte that a load would see at an address, if it is in RAM
+abbrev pub view_byte : Sys → ℕ → Option ℕ
+view_byte s address = ram_byte (view_ram s) address
+
+-- the bytes that the first part keeps which keeps any: RAM's own
+abbrev pub own_ram : List ObjState → List ℕ
+own_ram [] = []
+own_ram (o ∷ os) = elim (own_bytes o) [ Some m ↦ m | None ↦ own_ram os ]
+
+-- the hart that is active; where there is none, a reset one stands for it
+abbrev pub parts_mind : List ObjState → Mind
+parts_mind [] = record { arch = reset 0; doing = Boundary }
+parts_mind (o ∷ os) = elim (mind_of o) [ Some m ↦ m | None ↦ parts_mind os ]
 
 -- the program's state: the active CPU's hart, its progress, and memory as it is seen
 abbrev pub program_state : Sys → List Item → ProgramState
-program_state s items = state_within s items (active_cpu s.objects)
+program_state s items = record {
+  arch = (parts_mind s.objects).arch;
+  progress = progress_of s.router.routes (parts_mind s.objects).doing (awaited (all_packets s items));
+  memory = view_ram s;
+}

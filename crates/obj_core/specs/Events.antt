@@ -2,7 +2,7 @@
 use Rattle.std.specs.Prelude.{List}
 use Rattle.ev_queue.specs.Queue.{Queue}
 use Rattle.gm_model.specs.ObjState.{ObjState, object_of}
-use Rattle.gm_model.specs.Stepped.{Change, changed}
+use Rattle.gm_words.specs.Changes.{Change, changed}
 
 -- the queue after a part's changes to its own events
 abbrev pub with_changes : Queue → ObjState → List Change → Queue

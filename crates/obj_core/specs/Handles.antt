@@ -2,13 +2,12 @@
 use Rattle.std.specs.Prelude.{◌≡◌, ℕ, ◌+◌, ◌==◌, ◌&&◌, Bool, true, IsTrue, if◌then◌else◌, List, [], ◌∷◌}
 use Rattle.ev_queue.specs.Handle.{Handle}
 use Rattle.ev_queue.specs.declared.slot.Slot.{Slot}
-use Rattle.gm_model.specs.Kind.{kind_of_own}
-use Rattle.gm_model.specs.Platform.{slot_classes}
-use Rattle.gm_model.specs.Sound.{gave_from}
-use Rattle.gm_model.specs.ObjState.{ObjState, Blank, AtomicCpu, Server, device_kind}
-use Rattle.gm_model.specs.declared.kind.Kind.{Kind}
-use Rattle.gm_model.specs.declared.kind.Kind.TheVariants as kinds
-use Rattle.gm_model.specs.declared.params.Params.{Params}
+use Rattle.gm_words.specs.Kind.{kind_of_own}
+use Rattle.gm_words.specs.Platform.{slot_classes}
+use Rattle.gm_words.specs.Slots.{gave_from}
+use Rattle.gm_model.specs.ObjState.{ObjState, object_of, slots_of}
+use Rattle.gm_words.specs.declared.kind.Kind.{Kind}
+use Rattle.gm_words.specs.declared.params.Params.{Params}
 use Rattle.obj_core.specs.declared.handles.Handles.{Handles}
 
 -- the handles of a class, of an object's slots from a number on, which have these classes
@@ -29,8 +28,6 @@ pub record AreHandlesOf (p : Params) (h : Handles) : Type 0 where
   pub devices : h.device.items ≡ handles_of p.object.0 (kind_of_own p.own) 30
   pub cpus : h.cpu.items ≡ handles_of p.object.0 (kind_of_own p.own) 50
 
--- the queue gave the handles of a configured part
+-- the queue gave the handles of a part
 abbrev pub HasHandles : List Slot → ObjState → Type 0
-HasHandles table (Blank k) = Unit {0}
-HasHandles table (AtomicCpu s) = IsTrue (gave_from table s.common.object 0 (slot_classes kinds.AtomicCpu))
-HasHandles table (Server s) = IsTrue (gave_from table s.common.object 0 (slot_classes (device_kind s.device)))
+HasHandles table o = IsTrue (gave_from table (object_of o) 0 (slots_of o))

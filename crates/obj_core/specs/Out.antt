@@ -1,8 +1,8 @@
 -- An outbox as contracts see it. This project's own rule.
 use Rattle.std.specs.Prelude.{◌≡◌, ℕ, ◌+◌, ◌^◌, ◌<◌, ◌≤◌, List, [], ◌∷◌, ◌++◌, length, drop, map}
 use Rattle.gm_model.specs.Deliver.{Item, Sent, Done, sent_by}
-use Rattle.gm_model.specs.declared.act.Act.{Act}
-use Rattle.gm_model.specs.declared.entry.Entry.{Entry}
+use Rattle.gm_words.specs.declared.act.Act.{Act}
+use Rattle.gm_words.specs.declared.entry.Entry.{Entry}
 use Rattle.obj_core.specs.declared.item.Item.{Item as KeptItem}
 use Rattle.obj_core.specs.declared.item.Item.TheVariants as kept
 

@@ -3,7 +3,7 @@ use Rattle.std.specs.Prelude.{◌≡◌}
 use Rattle.ev_queue.specs.Queue.{Queue}
 use Rattle.gm_model.specs.ObjState.{ObjState}
 use Rattle.gm_model.specs.Stepped.{Stepped}
-use Rattle.gm_model.specs.declared.answer.Answer.TheVariants.{Nothing}
+use Rattle.gm_words.specs.declared.answer.Answer.TheVariants.{Nothing}
 use Rattle.obj_core.specs.Events.{with_changes}
 use Rattle.obj_core.specs.Out.{Out, extended}
 

@@ -1,12 +1,12 @@
 // A part of the machine, as the kernel sees it.
 ghost use Rattle.std.specs.Prelude.{◌≡◌, ◌+◌, ◌≤◌, length, take, drop, is_some, slice_get, OnOk, IfSome, MatchOption};
 ghost use Rattle.std.specs.Option.{option_map};
-ghost use Rattle.gm_model.specs.Allowed.{IsAllowed, MayWake, MayPass};
-ghost use Rattle.gm_model.specs.Kind.{kind_of_own};
+ghost use Rattle.gm_words.specs.Allowed.{IsAllowed, MayCome, MayPass};
+ghost use Rattle.gm_words.specs.Kind.{kind_of_own};
 ghost use Rattle.gm_model.specs.ObjState.{kind_of, IsBlank};
 ghost use Rattle.gm_model.specs.ObjectStep.{object_step, atomic_step, functional_step};
 ghost use Rattle.gm_model.specs.Command.{start_of, with_mode, drain_step, is_drained, resume_step, invalidated, arch_of, with_arch, exit_code, takes_input, with_input, own_bytes, with_own_bytes, lines_of};
-ghost use Rattle.gm_model.specs.declared.way.Way.TheVariants.{Done};
+ghost use Rattle.gm_words.specs.declared.way.Way.TheVariants.{Done};
 ghost use Rattle.obj_core.specs.Handles.{AreHandlesOf, HasHandles};
 ghost use Rattle.obj_core.specs.Events.{with_changes};
 ghost use Rattle.obj_core.specs.Out.{HasRoom, extended};
@@ -26,7 +26,7 @@ use std::alloc::Global;
 ///
 /// - A part is configured once, and only that takes memory.
 /// - What a part does at a wake depends on its own state, the next packet number and the tick alone.
-/// - It changes no event but its own, by the handles that it was configured with (`ChangesOwnEventsOnly`).
+/// - It changes no event but its own, by the handles that it was configured with (`KeepsOthersEvents`).
 /// - It calls no other part. What it wants of another it asks for in the outbox, and the kernel delivers it in order.
 /// - An offer is answered at once, `Taken` or `Refused`. Who was refused keeps the packet until it is called (`Retry`).
 /// - Who refused calls those that wait, once it can take a packet again, and each of them once.
@@ -60,7 +60,7 @@ pub trait SimObject: Drop {
     /// Its step rule.
     fn wake(&mut self, w: Wake, now: Tick, q: &mut EventQueue, out: &mut Outbox) -> Answer
         requires handles { HasHandles q.old.table (state self.old) }
-        requires wake { MayWake (state self.old) w }
+        requires wake { MayCome w }
         requires tick { now ≤ TOP }
         requires room { HasRoom out.old }
         ensures state { state self.new ≡ (object_step (state self.old) out.old.next w now).state }
@@ -72,7 +72,7 @@ pub trait SimObject: Drop {
     /// What becomes of a packet that is passed to it at once.
     fn atomic(&mut self, p: &mut Packet, now: Tick, q: &mut EventQueue, out: &mut Outbox) -> Way
         requires handles { HasHandles q.old.table (state self.old) }
-        requires packet { MayPass (state self.old) p.old }
+        requires packet { MayPass p.old }
         requires tick { now ≤ TOP }
         requires room { HasRoom out.old }
         ensures state { state self.new ≡ (atomic_step (state self.old) p.old now).state }
@@ -84,7 +84,7 @@ pub trait SimObject: Drop {
 
     /// What becomes of a read that is passed to it without time.
     fn functional(&self, p: &mut Packet) -> Way
-        requires { MayPass (state self.now) p.old }
+        requires { MayPass p.old }
         ensures packet { p.new ≡ functional_step (state self.now) p.old }
         ensures way { result ≡ Done 0 };
 

@@ -10,7 +10,7 @@ use std::cell::Cell;
 use std::rc::Rc;
 use std::test::Fail;
 
-/// A part that stays blank. It is configured as a timer, and as another kind it finds no memory.
+/// A part that stays blank. It is configured as a DMA engine, and as another kind it finds no memory.
 #[derive(Drop)]
 struct StaysBlank {
     kind: Kind,
@@ -32,7 +32,7 @@ impl SimObject for StaysBlank {
         _handles: Handles,
     ) -> Result<(), NoMemory> {
         match params.own {
-            Own::Timer { .. } => Ok(()),
+            Own::Dma { .. } => Ok(()),
             _ => Err(NoMemory),
         }
     }
@@ -129,14 +129,15 @@ fn wakes_are_counted_and_parts_can_be_boxed(rt: HostRuntime) -> Result<(), Fail>
 #[test]
 fn a_configuration_is_passed_on(rt: HostRuntime) -> Result<(), Fail> {
     let wakes = Rc::new(rt.alloc(), Cell::new(0))?;
-    let mut part = Counted::new(StaysBlank { kind: Kind::Timer }, wakes);
+    let mut part = Counted::new(StaysBlank { kind: Kind::Dma }, wakes);
     let params = Params {
         object: ObjId(0),
         line: 64,
         ram: 4096,
-        own: Own::Timer {
+        own: Own::Dma {
             latency: 5,
             period: 10,
+            window: 1,
         },
     };
     let handles = Handles {

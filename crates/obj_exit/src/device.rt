@@ -1,10 +1,10 @@
 // The exit device: the guest ends its run with the first number that it writes there. This project's own device.
 // Not modelled: reads, which are refused, and a second number, which is lost.
-ghost use Rattle.std.specs.Prelude.{◌≡◌, ◌≤◌, [], if◌then◌else◌, refl};
+ghost use Rattle.std.specs.Prelude.{◌≡◌, ◌≤◌, if◌then◌else◌, refl};
 ghost use Rattle.gm_model.specs.ObjState.{Exit};
-ghost use Rattle.gm_model.specs.Packet.{carried_number};
-ghost use Rattle.gm_model.specs.Serve.{serve_exit};
-ghost use Rattle.gm_model.specs.declared.kind.Kind.TheVariants as kinds;
+ghost use Rattle.gm_words.specs.Packet.{carried_number};
+ghost use Rattle.gm_model.specs.ExitDevice.{serve_exit};
+ghost use Rattle.gm_words.specs.declared.kind.Kind.TheVariants as kinds;
 ghost use Rattle.obj_core.specs.Out.{HasRoom, extended};
 ghost use Rattle.rv_step.specs.Flat.{in_exit};
 
@@ -12,7 +12,7 @@ use gc_base::{NoMemory, Tick};
 use gm_model::platform::EXIT_BASE;
 use gm_model::{Cmd, Kind, Own, Packet, Params};
 use obj_core::Outbox;
-use obj_server::{DEVICE_PLACES, Device, Served, ServedBy, Start, answer_write, refuse};
+use obj_server::{DEVICE_PLACES, Device, OwnEvent, Served, ServedBy, Start, answer_write, refuse};
 use std::alloc::Global;
 
 /// The size of the register, in bytes. It is at the first address of the device.
@@ -47,7 +47,7 @@ impl ExitDevice {
         requires write { p.old.cmd ≡ Cmd.Write }
         ensures device { Exit self.new.code ≡ (serve_exit self.old.code p.old Cmd.Write (in_exit p.old.addr p.old.size)).device }
         ensures response { p.new ≡ (serve_exit self.old.code p.old Cmd.Write (in_exit p.old.addr p.old.size)).response }
-        ensures noted { out.new ≡ extended out.old []
+        ensures out { out.new ≡ extended out.old (serve_exit self.old.code p.old Cmd.Write (in_exit p.old.addr p.old.size)).acts
             (serve_exit self.old.code p.old Cmd.Write (in_exit p.old.addr p.old.size)).entries out.old.next }
     {
         match written(p) {
@@ -85,16 +85,16 @@ impl Device for ExitDevice {
     // Requests, responses and own events.
 
     #[inline(always)]
-    fn serve(&mut self, p: &mut Packet, _now: Tick, out: &mut Outbox) -> Option<Tick> {
+    fn serve(&mut self, p: &mut Packet, _now: Tick, out: &mut Outbox) -> OwnEvent {
         match p.cmd {
             Cmd::Write => self.write(p, out),
             Cmd::Read => refuse(p, out),
             Cmd::WriteBack | Cmd::ReadResp | Cmd::WriteResp => {}
         }
-        None
+        OwnEvent::Stays
     }
 
-    fn event(&mut self) {}
+    fn event(&mut self, _out: &mut Outbox) {}
 
     // Functional access and own bytes: it has none.
 

@@ -1,13 +1,13 @@
 // RAM as a device: each request is served at once. This project's own rule.
 // Not modelled: banks, rows and refresh of a real memory, and the queue of the timing mode.
 ghost use Rattle.std.specs.Prelude.{◌≡◌, refl};
-ghost use Rattle.gm_model.specs.declared.kind.Kind.TheVariants as kinds;
+ghost use Rattle.gm_words.specs.declared.kind.Kind.TheVariants as kinds;
 
 use crate::ram::Ram;
 use gc_base::{NoMemory, Tick};
 use gm_model::{Kind, Own, Packet, Params};
 use obj_core::Outbox;
-use obj_server::{Device, Served, Start, read_response};
+use obj_server::{Device, OwnEvent, Served, Start, read_response};
 use std::alloc::Global;
 
 /// Memory as a part.
@@ -40,12 +40,12 @@ impl Device for Ram {
     // Requests, responses and own events: it has none.
 
     #[inline(always)]
-    fn serve(&mut self, p: &mut Packet, _now: Tick, out: &mut Outbox) -> Option<Tick> {
+    fn serve(&mut self, p: &mut Packet, _now: Tick, out: &mut Outbox) -> OwnEvent {
         self.serve_request(p, out);
-        None
+        OwnEvent::Stays
     }
 
-    fn event(&mut self) {}
+    fn event(&mut self, _out: &mut Outbox) {}
 
     // Functional access and own bytes.
 

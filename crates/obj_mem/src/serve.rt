@@ -1,9 +1,9 @@
 // How RAM serves a request.
-ghost use Rattle.std.specs.Prelude.{◌≡◌, ◌≤◌, []};
+ghost use Rattle.std.specs.Prelude.{◌≡◌, ◌≤◌};
 ghost use Rattle.rv_step.specs.FlatMem.{in_ram};
 ghost use Rattle.gm_model.specs.ObjState.{Memory};
-ghost use Rattle.gm_model.specs.Serve.{serve_memory};
-ghost use Rattle.gm_model.specs.declared.cmd.Cmd.TheVariants.{Read, Write};
+ghost use Rattle.gm_model.specs.Memory.{serve_memory};
+ghost use Rattle.gm_words.specs.declared.cmd.Cmd.TheVariants.{Read, Write};
 ghost use Rattle.obj_core.specs.Out.{HasRoom, extended};
 
 use crate::ram::Ram;
@@ -19,7 +19,8 @@ impl Ram {
         requires room { HasRoom out.old }
         ensures device { Memory self.new ≡ (serve_memory self.old p.old p.old.cmd (in_ram self.old p.old.addr p.old.size)).device }
         ensures response { p.new ≡ (serve_memory self.old p.old p.old.cmd (in_ram self.old p.old.addr p.old.size)).response }
-        ensures noted { out.new ≡ extended out.old [] (serve_memory self.old p.old p.old.cmd (in_ram self.old p.old.addr p.old.size)).entries out.old.next }
+        ensures out { out.new ≡ extended out.old (serve_memory self.old p.old p.old.cmd (in_ram self.old p.old.addr p.old.size)).acts
+            (serve_memory self.old p.old p.old.cmd (in_ram self.old p.old.addr p.old.size)).entries out.old.next }
     {
         let within = self.holds(p.addr, p.size);
         match p.cmd {
@@ -42,7 +43,8 @@ impl Ram {
         requires within { within ≡ in_ram self.now p.old.addr p.old.size }
         requires room { HasRoom out.old }
         ensures response { p.new ≡ (serve_memory self.now p.old Read within).response }
-        ensures noted { out.new ≡ extended out.old [] (serve_memory self.now p.old Read within).entries out.old.next }
+        ensures out { out.new ≡ extended out.old (serve_memory self.now p.old Read within).acts
+            (serve_memory self.now p.old Read within).entries out.old.next }
     {
         if within {
             answer_read(p, self.bytes_at(p.addr, p.size), ServedBy::Ram, out);
@@ -60,7 +62,8 @@ impl Ram {
         requires room { HasRoom out.old }
         ensures device { Memory self.new ≡ (serve_memory self.old p.old Write within).device }
         ensures response { p.new ≡ (serve_memory self.old p.old Write within).response }
-        ensures noted { out.new ≡ extended out.old [] (serve_memory self.old p.old Write within).entries out.old.next }
+        ensures out { out.new ≡ extended out.old (serve_memory self.old p.old Write within).acts
+            (serve_memory self.old p.old Write within).entries out.old.next }
     {
         if within {
             self.keep(p);

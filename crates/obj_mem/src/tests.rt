@@ -1,6 +1,6 @@
 // A memory is configured, answers a read, and can be boxed.
 ghost use Rattle.std.specs.Prelude.{◌≡◌, IfOk};
-ghost use Rattle.gm_model.specs.declared.own.Own.TheVariants.{Mem as MemOwn};
+ghost use Rattle.gm_words.specs.declared.own.Own.TheVariants.{Mem as MemOwn};
 ghost use Rattle.obj_core.specs.Handles.{AreHandlesOf};
 
 use crate::Mem;

@@ -1,23 +1,19 @@
 -- What a device does when it is asked, as a relation to the rules of servers. This project's own rules.
-use Rattle.std.specs.Prelude.{◌≡◌, ℕ, List, [], ◌∷◌, Option, Some, None}
-use Rattle.gm_model.specs.Flow.{quiet_flow}
-use Rattle.gm_model.specs.ObjectStep.{functional_read}
-use Rattle.gm_model.specs.ObjState.{Server, ServerState, Device}
-use Rattle.gm_model.specs.Platform.{device_class, character_slot}
-use Rattle.gm_model.specs.ServerStep.{device_event}
-use Rattle.gm_model.specs.Stepped.{Change, Schedule, stays}
-use Rattle.gm_model.specs.declared.packet.Packet.{Packet}
+use Rattle.std.specs.Prelude.{◌≡◌, List, [], ◌∷◌}
+use Rattle.gm_words.specs.Flow.{quiet_flow}
+use Rattle.gm_model.specs.Server.{functional_read}
+use Rattle.gm_model.specs.ObjState.{ServerState, Device}
+use Rattle.gm_words.specs.Platform.{device_class, own_slot}
+use Rattle.gm_words.specs.Changes.{Change, Schedule, Remove}
+use Rattle.gm_words.specs.declared.packet.Packet.{Packet}
+use Rattle.obj_server.specs.declared.own_event.OwnEvent.{OwnEvent}
+use Rattle.obj_server.specs.declared.own_event.OwnEvent.TheVariants.{Stays, Comes, Goes}
 
--- the changes to own events of a device that asks for its own event at a tick, or for none
-abbrev pub own_changes : Option ℕ → List Change
-own_changes None = []
-own_changes (Some at) = Schedule character_slot device_class at ∷ []
-
--- in whichever server, the device's own event does nothing but make it this device
-abbrev pub HasEvent : Device → Device → Type 0
-HasEvent d after =
-    (s : ServerState) (next : ℕ)
-    → device_event (record s { device = d }) next d ≡ stays (Server (record s { device = after })) next
+-- the changes to own events, by what becomes of a device's own
+abbrev pub own_changes : OwnEvent → List Change
+own_changes Stays = []
+own_changes (Comes at) = Schedule own_slot device_class at ∷ []
+own_changes Goes = Remove own_slot ∷ []
 
 -- a read without time makes the packet this one, where no write is queued
 abbrev pub ReadsAtOnce : Device → Packet → Packet → Type 0

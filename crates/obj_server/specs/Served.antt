@@ -1,7 +1,7 @@
 -- The state that a served part shows. This project's own rule.
 use Rattle.std.specs.Prelude.{Option, Some, None}
 use Rattle.gm_model.specs.ObjState.{ObjState, Blank, Device}
-use Rattle.gm_model.specs.declared.kind.Kind.{Kind}
+use Rattle.gm_words.specs.declared.kind.Kind.{Kind}
 use Rattle.obj_server.specs.Server.{server_of}
 use Rattle.obj_server.specs.declared.configured.Configured.{Configured}
 

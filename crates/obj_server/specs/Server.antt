@@ -1,6 +1,6 @@
 -- The state that a server shows with its device. This project's own rule.
 use Rattle.std.specs.Prelude.{false}
-use Rattle.gm_model.specs.Flow.{quiet_flow}
+use Rattle.gm_words.specs.Flow.{quiet_flow}
 use Rattle.gm_model.specs.ObjState.{ObjState, Server as ServerPart, ServerState, Device}
 use Rattle.obj_server.specs.declared.server.Server.{Server}
 

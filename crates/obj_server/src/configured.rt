@@ -1,13 +1,14 @@
 // A server that is configured.
-ghost use Rattle.std.specs.Prelude.{◌≡◌, ◌≤◌, [], IsTrue};
-ghost use Rattle.gm_model.specs.Platform.{slot_classes};
-ghost use Rattle.gm_model.specs.Serve.{serve};
-ghost use Rattle.gm_model.specs.Sound.{gave_from};
-ghost use Rattle.gm_model.specs.Stepped.{changed};
+ghost use Rattle.std.specs.Prelude.{◌≡◌, ◌≤◌, IsTrue};
+ghost use Rattle.gm_words.specs.Platform.{slot_classes};
+ghost use Rattle.gm_model.specs.Server.{serve};
+ghost use Rattle.gm_words.specs.Slots.{gave_from};
+ghost use Rattle.gm_words.specs.Changes.{changed};
 ghost use Rattle.obj_core.specs.Handles.{handles_of};
 ghost use Rattle.obj_core.specs.Out.{HasRoom, extended};
 
 use crate::device::Device;
+use crate::own_event::OwnEvent;
 use crate::server::Server;
 use ev_queue::{EventHandle, EventQueue};
 use gc_base::Tick;
@@ -43,10 +44,13 @@ impl<D: Device> Configured<D> {
           pending = changed self.old.server.object.0 q.old.pending
               (serve (D.shown self.old.device) p.old now).changes;
         } }
-        ensures noted { out.new ≡ extended out.old [] (serve (D.shown self.old.device) p.old now).entries out.old.next }
+        ensures out { out.new ≡ extended out.old (serve (D.shown self.old.device) p.old now).acts
+            (serve (D.shown self.old.device) p.old now).entries out.old.next }
     {
-        if let Some(at) = self.device.serve(p, now, out) {
-            q.reschedule(&self.slots[OWN], at);
+        match self.device.serve(p, now, out) {
+            OwnEvent::Stays => {}
+            OwnEvent::Comes { at } => q.reschedule(&self.slots[OWN], at),
+            OwnEvent::Goes => q.deschedule(&self.slots[OWN]),
         }
     }
 }

@@ -1,13 +1,14 @@
 // What serves a server's requests.
 ghost use Rattle.std.specs.Prelude.{◌≡◌, ◌+◌, ◌≤◌, [], length, take, drop, is_some, if◌then◌else◌, IfOk, IfSome, MatchOption};
-ghost use Rattle.gm_model.specs.Allowed.{IsAllowed};
-ghost use Rattle.gm_model.specs.Kind.{kind_of_own};
+ghost use Rattle.gm_words.specs.Allowed.{IsAllowed};
+ghost use Rattle.gm_words.specs.Kind.{kind_of_own};
 ghost use Rattle.gm_model.specs.ObjState.{device_kind};
-ghost use Rattle.gm_model.specs.Serve.{serve};
-ghost use Rattle.gm_model.specs.Command.{start_of, server_start, device_bytes, device_with_bytes, device_code, device_takes_input, device_with_input};
+ghost use Rattle.gm_model.specs.Server.{serve, server_start, device_after_event, event_acts, device_bytes, device_with_bytes, device_code, device_takes_input, device_with_input};
+ghost use Rattle.gm_model.specs.Command.{start_of};
 ghost use Rattle.obj_core.specs.Out.{HasRoom, extended};
-ghost use Rattle.obj_server.specs.Device.{own_changes, HasEvent, ReadsAtOnce};
+ghost use Rattle.obj_server.specs.Device.{own_changes, ReadsAtOnce};
 
+use crate::own_event::OwnEvent;
 use gc_base::limits::TOP;
 use gc_base::{NoMemory, Tick};
 use gm_model::{Kind, Packet, Params};
@@ -30,12 +31,12 @@ pub struct Start<D: Drop> {
 /// What serves a server's requests: RAM, or a device with registers.
 ///
 /// - A device is made once, and only that takes memory.
-/// - It serves a request at once, and notes it.
-/// - It holds no handle. The event of its own slot comes at the tick that it answers.
+/// - It serves a request at once, and notes it. What it asks for stands before the response.
+/// - It holds no handle. What becomes of the event of its own slot is what it answers.
 /// - What it hasn't, as bytes, input or an exit number, it denies.
 pub trait Device: Drop {
     ghost use Rattle.gm_model.specs.ObjState.{Device as DeviceState};
-    ghost use Rattle.gm_model.specs.declared.kind.Kind.{Kind as PartKind};
+    ghost use Rattle.gm_words.specs.declared.kind.Kind.{Kind as PartKind};
 
     /// The device's state, however it is kept.
     ghost shown: { Self → DeviceState };
@@ -53,19 +54,22 @@ pub trait Device: Drop {
         requires allowed { IsAllowed params.now }
         ensures { IfOk result (λ s. server_start params.now s.latency s.places (shown s.device) ≡ start_of params.now params.now.own) };
 
-    /// Serves a request: it becomes the response. It answers the tick at which the device's own event comes, if one does.
-    fn serve(&mut self, p: &mut Packet, now: Tick, out: &mut Outbox) -> Option<Tick>
+    /// Serves a request: it becomes the response. It answers what becomes of the device's own event.
+    fn serve(&mut self, p: &mut Packet, now: Tick, out: &mut Outbox) -> OwnEvent
         requires size { p.old.size ≤ 64 }
         requires tick { now ≤ TOP }
         requires room { HasRoom out.old }
         ensures device { shown self.new ≡ (serve (shown self.old) p.old now).device }
         ensures response { p.new ≡ (serve (shown self.old) p.old now).response }
         ensures changes { own_changes result ≡ (serve (shown self.old) p.old now).changes }
-        ensures noted { out.new ≡ extended out.old [] (serve (shown self.old) p.old now).entries out.old.next };
+        ensures out { out.new ≡ extended out.old (serve (shown self.old) p.old now).acts
+            (serve (shown self.old) p.old now).entries out.old.next };
 
     /// Its own event is served.
-    fn event(&mut self)
-        ensures { HasEvent (shown self.old) (shown self.new) };
+    fn event(&mut self, out: &mut Outbox)
+        requires { HasRoom out.old }
+        ensures device { shown self.new ≡ device_after_event (shown self.old) }
+        ensures out { out.new ≡ extended out.old (event_acts (shown self.old)) [] out.old.next };
 
     /// Answers a read without time, if it keeps the bytes.
     fn functional(&self, p: &mut Packet)

@@ -8,12 +8,14 @@
 mod configured;
 mod device;
 mod note;
+mod own_event;
 mod reply;
 mod served;
 mod served_by;
 mod server;
 
 pub use device::{DEVICE_PLACES, Device, Start};
+pub use own_event::OwnEvent;
 pub use reply::{answer_read, answer_write, read_response, refuse};
 pub use served::Served;
 pub use served_by::ServedBy;

@@ -1,7 +1,7 @@
 // How a server answers or refuses a request.
 ghost use Rattle.std.specs.Prelude.{◌≡◌, ◌≤◌, [], length, true};
-ghost use Rattle.gm_model.specs.Packet.{with_front, read_response as response_with, write_response, fault_response};
-ghost use Rattle.gm_model.specs.Serve.{served_entries};
+ghost use Rattle.gm_words.specs.Packet.{with_front, read_response as response_with, write_response, fault_response};
+ghost use Rattle.gm_words.specs.Entries.{served_entries};
 ghost use Rattle.obj_core.specs.Out.{HasRoom, extended};
 ghost use Rattle.obj_server.specs.ServedBy.{is_device};
 

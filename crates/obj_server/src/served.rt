@@ -67,10 +67,10 @@ impl<D: Device> SimObject for Served<D> {
     // Requests, responses and own events.
 
     #[tactic(auto, unfolding(gm_model::specs::ObjectStep::object_step))]
-    fn wake(&mut self, w: Wake, _now: Tick, _q: &mut EventQueue, _out: &mut Outbox) -> Answer {
+    fn wake(&mut self, w: Wake, _now: Tick, _q: &mut EventQueue, out: &mut Outbox) -> Answer {
         if let (Some(c), Wake::Event { slot }) = (&mut self.inner, &w) {
             if *slot == OWN_EVENT {
-                c.device.event();
+                c.device.event(out);
             }
         }
         Answer::Nothing

@@ -23,7 +23,7 @@ pub(crate) struct Server {
 impl Server {
     ghost use Rattle.obj_server.specs.Server.{server_of};
     ghost use Rattle.gm_model.specs.ObjState.{Device};
-    ghost use Rattle.gm_model.specs.Command.{server_start};
+    ghost use Rattle.gm_model.specs.Server.{server_start};
 
     // Set-up.
 

@@ -1,7 +1,7 @@
 -- What a UART's registers give that are read, by their offsets. This project's own rules.
 use Rattle.std.specs.Prelude.{ℕ, ◌==◌, if◌then◌else◌, drop}
 use Rattle.gm_model.specs.ObjState.{UartState}
-use Rattle.gm_model.specs.Serve.{first_byte, line_status}
+use Rattle.gm_model.specs.Uart.{first_byte, line_status}
 
 -- the oldest input byte at offset 0, the line status at 5, and else 0
 abbrev pub read_value : UartState → ℕ → ℕ

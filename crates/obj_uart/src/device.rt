@@ -4,13 +4,13 @@
 ghost use Rattle.std.specs.Prelude.{◌≡◌, ◌≤◌, refl};
 ghost use Rattle.std.specs.VecDeque.{deque_capacity};
 ghost use Rattle.gc_base.specs.declared.limits.TheConstants.{LATENCY_MAX};
-ghost use Rattle.gm_model.specs.declared.kind.Kind.TheVariants as kinds;
+ghost use Rattle.gm_words.specs.declared.kind.Kind.TheVariants as kinds;
 
 use gc_base::limits::UART_INPUT_MAX;
 use gc_base::{NoMemory, Tick};
 use gm_model::{Cmd, Kind, Own, Packet, Params};
 use obj_core::Outbox;
-use obj_server::{DEVICE_PLACES, Device, Served, Start};
+use obj_server::{DEVICE_PLACES, Device, OwnEvent, Served, Start};
 use std::alloc::Global;
 use std::collections::VecDeque;
 
@@ -60,19 +60,19 @@ impl Device for UartDevice {
 
     // Requests, responses and own events.
 
-    fn serve(&mut self, p: &mut Packet, now: Tick, out: &mut Outbox) -> Option<Tick> {
+    fn serve(&mut self, p: &mut Packet, now: Tick, out: &mut Outbox) -> OwnEvent {
         match p.cmd {
             Cmd::Read => {
                 self.read(p, out);
-                None
+                OwnEvent::Stays
             }
             Cmd::Write => self.write(p, now, out),
-            Cmd::WriteBack | Cmd::ReadResp | Cmd::WriteResp => None,
+            Cmd::WriteBack | Cmd::ReadResp | Cmd::WriteResp => OwnEvent::Stays,
         }
     }
 
     /// The byte is sent.
-    fn event(&mut self) {
+    fn event(&mut self, _out: &mut Outbox) {
         self.busy = false;
     }
 

@@ -1,8 +1,8 @@
 // How the UART serves a request.
-ghost use Rattle.std.specs.Prelude.{◌≡◌, ◌+◌, ◌-◌, ◌≤◌, true, [], if◌then◌else◌};
+ghost use Rattle.std.specs.Prelude.{◌≡◌, ◌+◌, ◌-◌, ◌≤◌, true, if◌then◌else◌};
 ghost use Rattle.gm_model.specs.ObjState.{Uart as UartPart};
-ghost use Rattle.gm_model.specs.Serve.{serve_uart, line_status};
-ghost use Rattle.gm_model.specs.declared.cmd.Cmd.TheVariants.{Read, Write};
+ghost use Rattle.gm_model.specs.Uart.{serve_uart, line_status};
+ghost use Rattle.gm_words.specs.declared.cmd.Cmd.TheVariants.{Read, Write};
 ghost use Rattle.obj_core.specs.Out.{HasRoom, extended};
 ghost use Rattle.obj_server.specs.Device.{own_changes};
 ghost use Rattle.obj_uart.specs.Registers.{read_value, after_read};
@@ -15,7 +15,7 @@ use gc_base::limits::TOP;
 use gm_model::Packet;
 use gm_model::platform::UART_BASE;
 use obj_core::Outbox;
-use obj_server::{ServedBy, answer_read, answer_write, refuse};
+use obj_server::{OwnEvent, ServedBy, answer_read, answer_write, refuse};
 
 /// How many registers there are, of one byte each.
 const REGISTERS: u64 = 8;
@@ -53,7 +53,7 @@ impl UartDevice {
         requires room { HasRoom out.old }
         ensures device { UartPart (uart_of self.new) ≡ (serve_uart (uart_of self.old) p.old 0 Read (in_uart p.old.addr p.old.size)).device }
         ensures response { p.new ≡ (serve_uart (uart_of self.old) p.old 0 Read (in_uart p.old.addr p.old.size)).response }
-        ensures noted { out.new ≡ extended out.old []
+        ensures out { out.new ≡ extended out.old (serve_uart (uart_of self.old) p.old 0 Read (in_uart p.old.addr p.old.size)).acts
             (serve_uart (uart_of self.old) p.old 0 Read (in_uart p.old.addr p.old.size)).entries out.old.next }
     {
         match offset(p) {
@@ -92,8 +92,8 @@ impl UartDevice {
 
     // Writes.
 
-    /// Serves a write. It answers the tick at which the byte is sent, if one is.
-    pub(crate) fn write(&mut self, p: &mut Packet, now: Tick, out: &mut Outbox) -> Option<Tick>
+    /// Serves a write. It answers when the byte is sent, if one is.
+    pub(crate) fn write(&mut self, p: &mut Packet, now: Tick, out: &mut Outbox) -> OwnEvent
         requires size { p.old.size ≤ 64 }
         requires write { p.old.cmd ≡ Write }
         requires tick { now ≤ TOP }
@@ -101,21 +101,21 @@ impl UartDevice {
         ensures device { UartPart (uart_of self.new) ≡ (serve_uart (uart_of self.old) p.old now Write (in_uart p.old.addr p.old.size)).device }
         ensures response { p.new ≡ (serve_uart (uart_of self.old) p.old now Write (in_uart p.old.addr p.old.size)).response }
         ensures changes { own_changes result ≡ (serve_uart (uart_of self.old) p.old now Write (in_uart p.old.addr p.old.size)).changes }
-        ensures noted { out.new ≡ extended out.old []
+        ensures out { out.new ≡ extended out.old (serve_uart (uart_of self.old) p.old now Write (in_uart p.old.addr p.old.size)).acts
             (serve_uart (uart_of self.old) p.old now Write (in_uart p.old.addr p.old.size)).entries out.old.next }
     {
         match offset(p) {
             Some(DATA) => {
                 answer_write(p, ServedBy::Device, out);
-                Some(self.send(now))
+                OwnEvent::Comes { at: self.send(now) }
             }
             Some(_) => {
                 answer_write(p, ServedBy::Device, out);
-                None
+                OwnEvent::Stays
             }
             None => {
                 refuse(p, out);
-                None
+                OwnEvent::Stays
             }
         }
     }

@@ -1,7 +1,7 @@
 -- One more at a place of a list of counts.
 use Rattle.std.proofs.Common.{◌≡◌, ℕ, suc, zero, ◌+◌, ◌<◌, ◌≤◌, refl, sym, ◌∙◌, ap, arith, List, [], ◌∷◌, length, get_or, set}
-use Rattle.gm_model.specs.Counts.{one_more_at}
-use Rattle.gm_model.specs.Sound.{AreUpTo}
+use Rattle.gm_words.specs.Counts.{one_more_at}
+use Rattle.probe_stats.specs.Counted.{IsBelowAt}
 
 pub one_more-set : (ks : List ℕ) (i x : ℕ) → i < length ks → x ≡ get_or ks i x → set ks i (x + 1) ≡ one_more_at ks i
 one_more-set [] i x l e = absurd (omega arith)
@@ -13,7 +13,7 @@ one_more-past [] i l = refl
 one_more-past (k ∷ ks) zero l = absurd (omega arith)
 one_more-past (k ∷ ks) (suc i) l = ap (λ ys. k ∷ ys) (one_more-past ks i (omega arith))
 
-pub up_to-at : (n : ℕ) (ks : List ℕ) (i d : ℕ) → AreUpTo n ks → i < length ks → get_or ks i d ≤ n
-up_to-at n [] i d h l = absurd (omega arith)
-up_to-at n (k ∷ ks) zero d h l = h.0
-up_to-at n (k ∷ ks) (suc i) d h l = up_to-at n ks i d h.1 (omega arith)
+pub below-at : (n : ℕ) (ks : List ℕ) (i d : ℕ) → IsBelowAt n ks i → i < length ks → get_or ks i d < n
+below-at n [] i d h l = absurd (omega arith)
+below-at n (k ∷ ks) zero d h l = h
+below-at n (k ∷ ks) (suc i) d h l = below-at n ks i d h (omega arith)

@@ -1,4 +1,3 @@
 pub mod Counted
-pub use Rattle.gm_model.specs.Counts
-pub use Rattle.gm_model.specs.Platform
-pub use Rattle.gm_model.specs.Sound
+pub use Rattle.gm_words.specs.Counts
+pub use Rattle.gm_words.specs.Platform

@@ -1,13 +1,10 @@
 // How often what was noted.
-ghost use Rattle.std.specs.Prelude.{◌≡◌, ℕ, ◌+◌, ◌-◌, ◌^◌, ◌<◌, length, vec_len, IfOk};
-ghost use Rattle.gm_model.specs.Counts.{count_entry, count_access, one_more_at};
-ghost use Rattle.gm_model.specs.Platform.{platform};
-ghost use Rattle.gm_model.specs.Sound.{AreUpTo, IsCountedUpTo};
-ghost use Rattle.probe_stats.specs.Counted.{begun_at};
+ghost use Rattle.std.specs.Prelude.{◌≡◌, ℕ, ◌+◌, ◌-◌, ◌^◌, ◌<◌, vec_len, IfOk};
+ghost use Rattle.gm_words.specs.Counts.{count_entry, count_access, one_more_at};
+ghost use Rattle.probe_stats.specs.Counted.{begun_at, IsBelowAt, IsAccessBelow, IsRaisedBelow};
 
 use gc_base::{NoMemory, ObjId, Tick};
-use gm_model::platform::part_count;
-use gm_model::{Config, Entry};
+use gm_words::Entry;
 use std::alloc::Global;
 use std::marker::Model;
 
@@ -55,11 +52,10 @@ impl Model for Counters {
 }
 
 impl Counters {
-    /// Counters of the parts of a machine, all 0, since tick 0.
-    pub fn new(alloc: Global, c: &Config) -> Result<Counters, NoMemory>
-        ensures { IfOk result (λ t. t ≡ begun_at (length (platform c.now)) 0) }
+    /// Counters of so many parts, all 0, since tick 0.
+    pub fn new(alloc: Global, parts: usize) -> Result<Counters, NoMemory>
+        ensures { IfOk result (λ t. t ≡ begun_at parts 0) }
     {
-        let parts = part_count(c);
         Ok(Counters {
             retired: 0,
             sleeps: 0,
@@ -76,9 +72,9 @@ impl Counters {
         })
     }
 
-    /// Counts an entry. Each counter is below 2^64 - 1.
+    /// Counts an entry, where the counter that it raises is below 2^64 - 1.
     pub fn note(&mut self, e: &Entry)
-        requires { IsCountedUpTo (2 ^ 64 - 2) self.old.counts }
+        requires { IsRaisedBelow (2 ^ 64 - 1) self.old.counts e.now }
         ensures { self.new ≡ record self.old { counts = count_entry self.old.counts e.now } }
     {
         match e {
@@ -95,7 +91,7 @@ impl Counters {
 
     /// Counts an access, by whether it is of a device and whether it writes.
     fn note_access(&mut self, device: bool, write: bool)
-        requires { IsCountedUpTo (2 ^ 64 - 2) self.old.counts }
+        requires { IsAccessBelow (2 ^ 64 - 1) self.old.counts device write }
         ensures { self.new ≡ record self.old { counts = count_access self.old.counts device write } }
     {
         match (device, write) {
@@ -142,7 +138,7 @@ fn start() -> Tick
 
 /// Counts one more of an object, if there is such a one.
 fn count_one(counts: &mut Vec<u64>, object: ObjId)
-    requires { AreUpTo (2 ^ 64 - 2) counts.old.items }
+    requires { IsBelowAt (2 ^ 64 - 1) counts.old.items object.0 }
     ensures { counts.new.items ≡ one_more_at counts.old.items object.0 }
 {
     let place = object.0 as usize;

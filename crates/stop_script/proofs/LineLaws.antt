@@ -13,8 +13,8 @@ use Rattle.std.specs.Str.Parse.{digits_value}
 use lib.Pointwise.{bytes_decides}
 use Rattle.gc_text.proofs.DecimalLemmas.{decimal_is_short, std_digits}
 use Rattle.gc_text.specs.LineReader.{is_line_feed, lines_of}
-use Rattle.gm_model.specs.declared.goal.Until.{Until}
-use Rattle.gm_model.specs.declared.goal.Until.TheVariants.{Tick, Insts, End}
+use Rattle.gm_words.specs.declared.goal.Until.{Until}
+use Rattle.gm_words.specs.declared.goal.Until.TheVariants.{Tick, Insts, End}
 use Rattle.stop_script.proofs.ScriptLemmas.{line_stop-number, without_empty_end-cons}
 use Rattle.stop_script.specs.Lines.{IsCanonical, IsFirstRefused, IsSayable, IsSayableUntil, IsScript, LineSays, LinesSay, SaysNothing, SaysStop, TellsRefused, script_text, stop_line, until_words}
 use Rattle.stop_script.specs.Script.{TellsLine, and_later, is_skipped, is_too_much, line_stop, longest_line, most_lines, script_lines, stops_from, stops_of, without_empty_end}

@@ -1,7 +1,7 @@
 -- Scripts line by line: what a line says, which one is refused, and canonical texts. Source: this project's own rule.
 use Rattle.std.specs.Prelude.{◌≡◌, ◌⊎◌, ℕ, ◌+◌, ◌<◌, ◌≤◌, List, [], ◌∷◌, ◌++◌, All, Option, Some, None, length, option_to_list, codes, decimal, ⊤}
-use Rattle.gm_model.specs.declared.goal.Until.{Until}
-use Rattle.gm_model.specs.declared.goal.Until.TheVariants.{Tick, Insts, End}
+use Rattle.gm_words.specs.declared.goal.Until.{Until}
+use Rattle.gm_words.specs.declared.goal.Until.TheVariants.{Tick, Insts, End}
 use Rattle.stop_script.specs.Script.{longest_line, most_lines, script_lines}
 use Rattle.stop_script.specs.Stop.{most}
 use Rattle.stop_script.specs.declared.script_fault.ScriptFault.{ScriptFault}

@@ -2,8 +2,8 @@
 use Rattle.std.specs.Prelude.{ℕ, nat_eq, nat_le, if◌then◌else◌, List, Option, Some, None, option_map, option_and_then, length, take, drop, codes, decimal}
 use Rattle.std.specs.Cmp.Lexicographic.{pointwise}
 use Rattle.std.specs.Str.Parse.{digits_value}
-use Rattle.gm_model.specs.declared.goal.Until.{Until}
-use Rattle.gm_model.specs.declared.goal.Until.TheVariants.{Tick, Insts, End}
+use Rattle.gm_words.specs.declared.goal.Until.{Until}
+use Rattle.gm_words.specs.declared.goal.Until.TheVariants.{Tick, Insts, End}
 use Rattle.stop_script.specs.declared.stop.Stop.{Stop}
 use Rattle.stop_script.specs.declared.stop.Stop.TheVariants.{Run, Regs}
 

@@ -5,7 +5,7 @@ ghost use Rattle.stop_script.specs.Stop.{number_of, until_of, stop_of};
 use crate::stop::Stop;
 use gc_base::limits::LAST;
 use gc_text::read_dec;
-use gm_model::Until;
+use gm_words::Until;
 
 /// The stop that a line says, or `None` where it has none of the forms.
 pub(crate) fn stop_of(line: &[u8]) -> Option<Stop>

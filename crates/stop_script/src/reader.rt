@@ -13,7 +13,7 @@ use crate::stop::Stop;
 use crate::stops::Stops;
 use gc_base::limits::SCRIPT_LINES_MAX;
 use gc_text::MAX_LINE;
-use gm_model::Config;
+use gm_words::Config;
 use memchr::memchr;
 use std::alloc::Global;
 

@@ -1,5 +1,5 @@
 // What one line of a script asks for.
-use gm_model::Until;
+use gm_words::Until;
 
 /// What one line of a script asks for.
 #[derive(Clone, Copy, Debug, PartialEq, Eq)]

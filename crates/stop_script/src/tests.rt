@@ -1,6 +1,6 @@
 // What no clause says: that the texts of the agreed tables are read as they stand here, where memory is ample.
 use crate::{ScriptFault, Stop, read};
-use gm_model::{Caches, Config, Until};
+use gm_words::{Caches, Config, Until};
 use std::alloc::Global;
 
 // Any configuration: no form that is built asks for more of it.

@@ -1,31 +1,9 @@
 // Which counter an entry raises.
 use super::Counters;
 use gc_base::{NoMemory, ObjId, PktId};
-use gm_model::{Caches, Config, Entry};
+use gm_words::Entry;
 use std::alloc::Global;
 use std::test::Fail;
-
-/// A configuration; its values are not looked at.
-fn any_config(alloc: Global) -> Config {
-    Config {
-        system_model: false,
-        system_line: 16,
-        system_ram: 4_096,
-        system_budget: 1,
-        cpu_period: 1,
-        corebus_latency: 1,
-        caches: Caches::new(Vec::new(alloc)),
-        membus_latency: 1,
-        mem_latency: 1,
-        mem_queue: 1,
-        uart_latency: 1,
-        uart_chartime: 1,
-        timer_latency: 1,
-        timer_period: 1,
-        exit_latency: 1,
-        dma: None,
-    }
-}
 
 /// An access of the hart, by whether it writes, whether it is of a device, and whether it is refused.
 fn served(write: bool, device: bool, fault: bool) -> Entry {
@@ -47,8 +25,8 @@ fn of_one(counts: &[u64]) -> u64 {
 }
 
 /// All counters, after an event that notes this entry alone. Of the counters by part those of the part 1.
-fn counted(alloc: Global, c: &Config, entry: &Entry) -> Result<[u64; 11], NoMemory> {
-    let mut counters = Counters::new(alloc, c)?;
+fn counted(alloc: Global, entry: &Entry) -> Result<[u64; 11], NoMemory> {
+    let mut counters = Counters::new(alloc, 4)?;
     counters.event();
     counters.note(entry);
     Ok([
@@ -68,7 +46,6 @@ fn counted(alloc: Global, c: &Config, entry: &Entry) -> Result<[u64; 11], NoMemo
 
 #[test]
 fn each_entry_raises_its_own_counter(rt: HostRuntime) -> Result<(), Fail> {
-    let c = any_config(rt.alloc());
     let part = ObjId(1);
     let absent = ObjId(200);
     let cases = [
@@ -120,7 +97,7 @@ fn each_entry_raises_its_own_counter(rt: HostRuntime) -> Result<(), Fail> {
         ),
     ];
     for (entry, counters) in &cases {
-        assert_eq!(rt; counted(rt.alloc(), &c, entry)?, *counters, "{entry:?}");
+        assert_eq!(rt; counted(rt.alloc(), entry)?, *counters, "{entry:?}");
     }
     Ok(())
 }

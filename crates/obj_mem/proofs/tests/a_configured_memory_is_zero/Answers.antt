@@ -1,9 +1,8 @@
 use Rattle.std.proofs.Common.{rules}
-use Rattle.obj_mem.proofs.Passes.{small_passes}
 use Rattle.obj_mem.proofs.tests.a_configured_memory_is_zero.Goals as goal
 
 pub functional-requires : goal.functional-requires
-functional-requires g c = small_passes _ _ (search rules)
+functional-requires g c = search rules
 
 pub functional-requires-2 : goal.functional-requires-2
-functional-requires-2 g c = small_passes _ _ (search rules)
+functional-requires-2 g c = search rules

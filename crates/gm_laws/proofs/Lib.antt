@@ -1,0 +1,14 @@
+pub mod Bytes
+pub mod Counts
+pub mod Weights
+pub mod Calm
+pub mod Lines
+pub mod Ticks
+pub mod Answering
+pub mod Timers
+pub mod Serving
+pub mod Servers
+pub mod AtomicCpus
+pub mod EachKind
+pub mod Modest
+pub mod Commands

@@ -1,0 +1,53 @@
+-- All that the theorems on machines ask of the parts, whichever kinds they are of. This project's own laws.
+use Rattle.std.specs.Prelude.{◌≡◌, ℕ, ◌+◌, ◌≤◌, ◌<◌, true, false, List, [], ◌∷◌, length, slice_get, Some, None}
+use Rattle.gc_base.specs.declared.limits.TheConstants.{LATENCY_MAX, PERIOD_MAX}
+use Rattle.gm_words.specs.Allowed.{MayPass, MayCome}
+use Rattle.gm_words.specs.Changes.{Change, Schedule, Remove}
+use Rattle.gm_words.specs.Entries.{console_of}
+use Rattle.gm_words.specs.Moves.{AreDrawn}
+use Rattle.gm_words.specs.Packet.{is_response, is_write_back}
+use Rattle.gm_words.specs.Router.{Route}
+use Rattle.gm_words.specs.declared.act.Act.{Act}
+use Rattle.gm_words.specs.declared.act.Act.TheVariants as acts
+use Rattle.gm_words.specs.declared.answer.Answer.TheVariants as answers
+use Rattle.gm_words.specs.declared.packet.Packet.{Packet}
+use Rattle.gm_words.specs.declared.wake.Wake.{Wake}
+use Rattle.gm_words.specs.declared.wake.Wake.TheVariants as wakes
+use Rattle.gm_words.specs.declared.way.Way.TheVariants as ways
+use Rattle.gm_model.specs.ObjState.{ObjState, object_of, slots_of, latency_of}
+use Rattle.gm_model.specs.ObjectStep.{object_step, atomic_step}
+use Rattle.gm_model.specs.Stepped.{Stepped, Passed}
+use Rattle.gm_laws.specs.Words.{offers}
+use Rattle.gm_laws.specs.Face.{Face, Law, MayWake, TellsDue, passed_packets}
+use Rattle.gm_laws.specs.Faces.{face_of, IsOk, Keeps, AllActsOk}
+use Rattle.gm_laws.specs.Fuel.{weight}
+use Rattle.gm_laws.specs.Program.{Serves, seen}
+
+-- every part's rule for a wake meets the laws
+abbrev pub WakesHold : Type 0
+WakesHold = (rs : List Route) (ram : ℕ) (o : ObjState) (next : ℕ) (w : Wake) (now : ℕ) → IsOk rs ram o → MayWake (face_of o) w
+    → Keeps rs ram (face_of o) w (object_step o next w now)
+
+-- what a part owes that serves a packet, or refuses it by fault, at once
+pub record IsDone (rs : List Route) (ram : ℕ) (f : Face) (x : Packet) (v : Passed) : Type 0 where
+  pub ok : IsOk rs ram v.state
+  pub law : Law f (wakes.AtomicDone x 0) (face_of v.state) answers.Nothing v.acts
+  pub due : TellsDue f (wakes.AtomicDone x 0) (face_of v.state) v.changes
+  pub acts : AllActsOk v.acts
+  pub passed : passed_packets v.acts ≡ []
+  pub few : (p : ℕ) → offers p v.acts ≡ 0
+  pub light : weight v.acts + (face_of v.state).toil ≤ f.toil + 1
+  pub held : (face_of v.state).packets ≡ f.packets
+  pub cpu : (face_of v.state).cpu ≡ f.cpu
+  pub instant : (face_of v.state).instant ≡ f.instant
+  pub mindless : (f.mind ≡ None) × ((face_of v.state).mind ≡ None)
+  pub response : is_response v.packet.cmd ≡ true
+  pub id : v.packet.id ≡ x.id
+  pub serves : (m : List ℕ) → length m ≡ ram → seen f.memory m ≡ m → Serves rs m (record { request = x; response = v.packet } ∷ []) v.entries (seen (face_of v.state).memory m)
+  pub stays : f.memory ≡ None → (face_of v.state).memory ≡ None
+  pub remains : (face_of v.state).memory ≡ None → f.memory ≡ None
+
+-- every part serves a request that it admits
+abbrev pub PassesHold : Type 0
+PassesHold = (rs : List Route) (ram : ℕ) (o : ObjState) (x : Packet) (now : ℕ) → IsOk rs ram o → (face_of o).admits 0 x ≡ true
+    → is_response x.cmd ≡ false → is_write_back x.cmd ≡ false → IsDone rs ram (face_of o) x (atomic_step o x now)

@@ -1,0 +1,5 @@
+pub mod Net
+pub mod System
+pub mod Machine
+pub mod Runs
+pub mod Laws

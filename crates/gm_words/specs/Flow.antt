@@ -1,0 +1,24 @@
+-- What a part has to send from one port: the packets in order, and how the first of them stands.
+-- This project's own rule, after request and response ports whose receiver may refuse.
+use Rattle.std.specs.Prelude.{ℕ, List, []}
+use Rattle.gm_words.specs.declared.packet.Packet.{Packet}
+
+-- how the first packet stands: there is none, its event is pending, it is offered, or it was refused and waits for a call
+pub data OutState : Type 0 where
+  Quiet : OutState
+  Due : OutState
+  Asked : OutState
+  Waits : OutState
+
+-- a packet, and the tick from which on it may be offered
+pub record Queued : Type 0 where
+  pub packet : Packet
+  pub ready : ℕ
+
+pub record Flow : Type 0 where
+  pub items : List Queued
+  pub out : OutState
+
+-- with nothing to send
+abbrev pub quiet_flow : Flow
+quiet_flow = record { items = []; out = Quiet }

@@ -1,0 +1,15 @@
+pub mod Packet
+pub mod Moves
+pub mod Kind
+pub mod Platform
+pub mod Flow
+pub mod Changes
+pub mod EventLaws
+pub mod Slots
+pub mod Shown
+pub mod HartLine
+pub mod Allowed
+pub mod Entries
+pub mod Counts
+pub mod Router
+pub mod Replay

@@ -1,0 +1,84 @@
+// What a part is configured with, by its kind.
+ghost use Rattle.std.specs.Prelude.{◌≡◌};
+
+use crate::kind::Kind;
+use crate::port_use::PortUse;
+
+/// What a part is configured with, by its kind. Latencies and periods are in ticks.
+#[derive(Clone, Copy, Debug, PartialEq, Eq)]
+pub enum Own {
+    AtomicCpu {
+        period: u64,
+    },
+    TimingCpu {
+        period: u64,
+    },
+    Xbar {
+        latency: u64,
+        ports: [PortUse; 8],
+    },
+    Cache {
+        /// The source of its own requests: 4, 5 or 6.
+        source: u8,
+        sets: u64,
+        ways: u64,
+        mshrs: u64,
+        targets: u64,
+        writeq: u64,
+        latency: u64,
+    },
+    Mem {
+        latency: u64,
+        queue: u64,
+    },
+    Uart {
+        latency: u64,
+        chartime: u64,
+    },
+    Timer {
+        latency: u64,
+        period: u64,
+    },
+    Exit {
+        latency: u64,
+    },
+    Dma {
+        latency: u64,
+        period: u64,
+        window: u64,
+    },
+}
+
+impl Own {
+    ghost use Rattle.gm_words.specs.Kind.{kind_of_own};
+    ghost use Rattle.gm_words.specs.Platform.{slot_classes};
+
+    /// The kind that it configures.
+    pub fn kind(&self) -> Kind
+        ensures { result ≡ kind_of_own self.now }
+    {
+        match self {
+            Own::AtomicCpu { .. } => Kind::AtomicCpu,
+            Own::TimingCpu { .. } => Kind::TimingCpu,
+            Own::Xbar { .. } => Kind::Xbar,
+            Own::Cache { .. } => Kind::Cache,
+            Own::Mem { .. } => Kind::Mem,
+            Own::Uart { .. } => Kind::Uart,
+            Own::Timer { .. } => Kind::Timer,
+            Own::Exit { .. } => Kind::Exit,
+            Own::Dma { .. } => Kind::Dma,
+        }
+    }
+
+    /// The classes of a part's slots, from slot 0 on. At one tick the event of a lower class is served first.
+    pub fn slots(&self) -> &'static [u8]
+        ensures { result.now ≡ slot_classes (kind_of_own self.now) }
+    {
+        match self {
+            Own::AtomicCpu { .. } => &[50],
+            Own::Mem { .. } | Own::Exit { .. } => &[30],
+            Own::Uart { .. } | Own::Timer { .. } => &[30, 30],
+            Own::TimingCpu { .. } | Own::Xbar { .. } | Own::Cache { .. } | Own::Dma { .. } => &[],
+        }
+    }
+}
