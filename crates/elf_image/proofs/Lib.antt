@@ -1,3 +1,4 @@
 pub mod RamLaws
+pub mod BlockLaws
 pub mod SegmentLemmas
 pub mod WrittenLaws

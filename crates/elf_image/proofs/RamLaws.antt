@@ -2,19 +2,24 @@
 use Rattle.std.proofs.Common.{◌≡◌, ℕ, ◌+◌, ◌-◌, ◌≤◌, ◌∙◌, sym, ap, subst, arith, All, List, [], ◌∷◌, ◌++◌, append_assoc, append-nil, length, take, drop, fold, replicate, length-drop}
 use Rattle.std.proofs.Math.Seq.{drop-append-add, take-add, take-append_seam}
 use Rattle.std.proofs.lemmas.List.{drop-drop, length-append, length-replicate, length-take-le, take-append-drop}
-use Rattle.std.proofs.lemmas.List.Elements.{All-head, All-tail}
+use Rattle.std.proofs.lemmas.List.Elements.{All-head, All-tail, All-weaker}
 use Rattle.rv_step.specs.FlatMem.{ram_base, ram_put}
 use Rattle.elf_image.specs.Image.{LiesInRam}
 use Rattle.elf_image.specs.Ram.{bytes_of_piece, with_piece, ram_of}
 use Rattle.elf_image.specs.declared.image.Image.{Image}
 use Rattle.elf_image.specs.declared.piece.Piece.{Piece}
 
+-- pieces that lie in RAM lie in a larger one too
+pub lie_in_larger : (ram larger : ℕ) (pieces : List Piece) → ram ≤ larger → All (LiesInRam ram) pieces → All (LiesInRam larger) pieces
+lie_in_larger ram larger pieces more lie =
+    All-weaker (LiesInRam ram) (LiesInRam larger) (λ p h. record { above = h.above; below = omega (arith, h.below, more) }) pieces lie
+
 -- a piece has its bytes and its zeros
 pub length-bytes_of_piece : (p : Piece) → length (bytes_of_piece p) ≡ length p.bytes + p.zeros
 length-bytes_of_piece p = length-append p.bytes (replicate p.zeros 0) ∙ ap (λ n. length p.bytes + n) (length-replicate p.zeros 0)
 
 -- RAM keeps its size when bytes are put into it
-length-ram_put : (m : List ℕ) (address : ℕ) (bytes : List ℕ) → ram_base ≤ address → address + length bytes ≤ ram_base + length m →
+pub length-ram_put : (m : List ℕ) (address : ℕ) (bytes : List ℕ) → ram_base ≤ address → address + length bytes ≤ ram_base + length m →
     length (ram_put m address bytes) ≡ length m
 length-ram_put m address bytes above below =
     let at = address - ram_base in

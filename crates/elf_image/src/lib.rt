@@ -1,11 +1,14 @@
 //! Images: what a file says as one, and the ELF file of an assembled program.
 //!
 //! Its promise: `read` gives exactly the image that the definition gives for the file and the size of RAM, or its first
-//! fault, whatever the file holds; and what `write` writes reads back as the program's words.
+//! fault, whatever the file holds; what `write` writes reads back as the program's words; and the blocks that `Blocks` gives,
+//! put in order into RAM that is zero, make of it what the image says.
 //! Read `specs/Image.antt` first, then `specs/Header.antt` and `specs/Segment.antt`; `specs/Ram.antt` says what RAM then
-//! holds. Section headers, symbols, flags and virtual addresses aren't looked at, and nothing is relocated.
+//! holds, and `specs/Loading.antt` what a block does. Section headers, symbols, flags and virtual addresses aren't looked
+//! at, and nothing is relocated.
 #![tactic(auto)]
 
+mod blocks;
 mod fault;
 mod field;
 mod header;
@@ -19,7 +22,9 @@ mod sample_files;
 #[cfg(test)]
 mod tests;
 mod writer;
+mod written_pages;
 
+pub use blocks::{Block, Blocks};
 pub use fault::ElfFault;
 pub use image::Image;
 pub use piece::{Piece, Pieces};

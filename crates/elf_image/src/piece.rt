@@ -25,8 +25,16 @@ pub struct Piece {
 }
 
 impl Piece {
-    ghost use Rattle.std.specs.Prelude.{◌<◌, ◌≤◌, length, take, drop, IfNone, IfSome};
+    ghost use Rattle.std.specs.Prelude.{◌<◌, ◌≤◌, ◌+◌, ◌^◌, length, take, drop, IfNone, IfSome};
     ghost use Rattle.elf_image.specs.Ram.{bytes_of_piece};
+
+    /// How many bytes it puts into memory.
+    pub(crate) fn size(&self) -> u64
+        requires { length self.now.bytes + self.now.zeros < 2 ^ 64 }
+        ensures { result ≡ length (bytes_of_piece self.now) }
+    {
+        self.bytes.items().len() as u64 + self.zeros
+    }
 
     /// What it puts into memory from one of its bytes on, as many bytes as lie together; none behind its last.
     pub fn block(&self, from: u64) -> Option<&[u8]>

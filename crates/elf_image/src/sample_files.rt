@@ -6,6 +6,9 @@ use std::alloc::Global;
 /// The size of RAM where nothing else is said.
 pub(crate) const RAM: u32 = 4096;
 
+/// The size of the largest RAM.
+pub(crate) const LARGEST_RAM: u32 = 16_777_216;
+
 /// The address of RAM's first byte.
 pub(crate) const BASE: u64 = 0x8000_0000;
 

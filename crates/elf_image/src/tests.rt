@@ -1,7 +1,13 @@
 // That the definitions say what the format says: files, and their answers by hand.
-use crate::sample_files::{BASE, FILE, RAM, Segment, WORDS, edited, elf, program_header, zeros};
-use crate::{ElfFault, Image, Program, Words, read, write};
+ghost use Rattle.std.specs.Prelude.{All};
+ghost use Rattle.elf_image.specs.Image.{LiesInRam};
+
+use crate::sample_files::{
+    BASE, FILE, LARGEST_RAM, RAM, Segment, WORDS, edited, elf, program_header, zeros,
+};
+use crate::{Blocks, ElfFault, Image, Program, Words, read, write};
 use byteorder::{ByteOrder, LittleEndian};
+use gc_base::limits::RAM_MAX;
 use std::alloc::Global;
 use std::process::Abort;
 use std::test::Fail;
@@ -24,27 +30,19 @@ fn expect_pieces(rt: &impl Abort, image: &Image, pieces: &[(u64, &[u8], u64)]) {
     }
 }
 
-/// Puts a byte, if its place is there.
-fn put(ram: &mut [u8], place: u64, byte: u8) {
-    if place < ram.len() as u64 {
-        ram[place as usize] = byte;
+/// Asks for these blocks: address, bytes.
+fn expect_blocks(rt: &impl Abort, image: &Image, blocks: &[(u64, &[u8])])
+    requires { All (LiesInRam RAM_MAX) image.now.pieces }
+{
+    let mut given = Blocks::new(image.pieces.items());
+    for (addr, bytes) in blocks {
+        let Some(block) = given.next() else {
+            panic!(rt; "no block at {addr}");
+        };
+        assert_eq!(rt; block.addr, *addr);
+        assert!(rt; block.bytes == *bytes, "the bytes at {addr}");
     }
-}
-
-/// The first bytes of RAM once the pieces are loaded in order.
-fn loaded(image: &Image) -> [u8; 12] {
-    let mut ram = [0; 12];
-    for piece in image.pieces.items() {
-        let start = piece.addr.wrapping_sub(BASE);
-        for (i, byte) in piece.bytes.items().iter().enumerate() {
-            put(&mut ram, start.wrapping_add(i as u64), *byte);
-        }
-        let end = start.wrapping_add(piece.bytes.items().len() as u64);
-        for i in 0..piece.zeros {
-            put(&mut ram, end.wrapping_add(i), 0);
-        }
-    }
-    ram
+    assert!(rt; given.next().is_none());
 }
 
 #[test]
@@ -307,7 +305,7 @@ fn later_segments_lie_over_earlier_ones(rt: HostRuntime) -> Result<(), Fail> {
         ],
         b"abcdefghABx",
     )?;
-    let image = read(alloc, &file, RAM)?;
+    let image = read(alloc, &file, LARGEST_RAM)?;
     expect_pieces(
         &rt,
         &image,
@@ -317,7 +315,94 @@ fn later_segments_lie_over_earlier_ones(rt: HostRuntime) -> Result<(), Fail> {
             (BASE + 5, b"x", 0),
         ],
     );
-    assert!(rt; loaded(&image) == *b"abAB\0xgh\0\0\0\0");
+    // the second segment's zeros clear two bytes of the first, one of which the third then writes
+    expect_blocks(
+        &rt,
+        &image,
+        &[
+            (BASE, b"abcdefgh"),
+            (BASE + 2, b"AB"),
+            (BASE + 4, b"\0\0"),
+            (BASE + 5, b"x"),
+        ],
+    );
+    Ok(())
+}
+
+#[test]
+fn blocks_end_with_their_page(rt: HostRuntime) -> Result<(), Fail> {
+    let alloc = rt.alloc();
+    let image = read(alloc, &[1; 8192], LARGEST_RAM)?;
+    expect_blocks(
+        &rt,
+        &image,
+        &[(BASE, &[1; 4096]), (BASE + 4096, &[1; 4096])],
+    );
+
+    // one header ends at 120
+    let segment = Segment {
+        kind: 1,
+        offset: 120,
+        address: BASE + 4090,
+        file_size: 8,
+        memory_size: 5_000,
+    };
+    let file = elf(alloc, &[segment], b"abcdefgh")?;
+    let image = read(alloc, &file, LARGEST_RAM)?;
+    expect_blocks(
+        &rt,
+        &image,
+        &[
+            (BASE + 4090, b"abcdef"),
+            (BASE + 4096, b"gh"),
+            (BASE + 4098, &[0; 4094]),
+        ],
+    );
+    Ok(())
+}
+
+#[test]
+fn zeros_are_put_only_in_written_pages(rt: HostRuntime) -> Result<(), Fail> {
+    let alloc = rt.alloc();
+    // as many segments as there can be, each of zeros alone
+    let file = elf(alloc, &vec![in alloc; zeros(BASE, 65_536); 65_535]?, b"")?;
+    let image = read(alloc, &file, LARGEST_RAM)?;
+    expect_blocks(&rt, &image, &[]);
+
+    // six headers end at 400
+    let byte = |offset, address| Segment {
+        kind: 1,
+        offset,
+        address,
+        file_size: 1,
+        memory_size: 1,
+    };
+    let file = elf(
+        alloc,
+        &[
+            byte(400, BASE + 4096),
+            byte(401, BASE + 16_777_215),
+            // what stands behind the first byte in its page, and the second byte's whole page, which isn't cleared again
+            zeros(BASE + 4097, 16_773_119),
+            zeros(BASE + 8192, 16_769_024),
+            // the first byte's whole page, and then nothing more
+            zeros(BASE, 16_777_216),
+            zeros(BASE, 16_777_216),
+        ],
+        b"ab",
+    )?;
+    let image = read(alloc, &file, LARGEST_RAM)?;
+    expect_blocks(
+        &rt,
+        &image,
+        &[
+            (BASE + 4096, b"a"),
+            (BASE + 16_777_215, b"b"),
+            (BASE + 4097, &[0; 4095]),
+            (BASE + 16_773_120, &[0; 4096]),
+            (BASE + 4096, &[0; 4096]),
+        ],
+    );
     Ok(())
 }
 

@@ -1,6 +1,7 @@
 -- A sink in memory that fails where it is told to. Source: this project's own rule.
 use Rattle.std.specs.Prelude.{ℕ, Bool, if◌then◌else◌, ◌&&◌, not, nat_le, List, length}
-use Rattle.gc_outside.specs.PlannedFaults.{Plan, is_planned, called, faults_after}
+use Rattle.gc_outside.specs.Faults.{faults_after}
+use Rattle.gc_outside.specs.PlannedFaults.{Plan, is_planned, called}
 use Rattle.gc_outside.specs.TakenBytes.{Taken, free_room, with_fitting}
 
 -- what was taken, which calls are to fail, and how many failed

@@ -1,6 +1,7 @@
 -- A store in memory that fails where it is told to. Source: this project's own rule.
 use Rattle.std.specs.Prelude.{ℕ, Bool, false, if◌then◌else◌, ◌&&◌, not, nat_le, List, length, Option, None}
-use Rattle.gc_outside.specs.PlannedFaults.{Plan, is_planned, called, faults_after}
+use Rattle.gc_outside.specs.Faults.{faults_after}
+use Rattle.gc_outside.specs.PlannedFaults.{Plan, is_planned, called}
 use Rattle.gc_outside.specs.KeptFiles.{Kept, with_empty, with_grown, newest_name, spare_room, has_place, can_add, with_file}
 
 -- the files, whether a put is open (it is that of the newest file), which calls are to fail, and how many failed

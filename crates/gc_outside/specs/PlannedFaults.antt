@@ -1,14 +1,7 @@
 -- Calls that are to fail, by their number. Source: this project's own rule.
-use Rattle.std.specs.Prelude.{ℕ, ◌+◌, ◌-◌, ◌^◌, ◌==◌, min, Bool, if◌then◌else◌, nat_lt, List, [], ◌∷◌, ◌++◌, length}
+use Rattle.std.specs.Prelude.{ℕ, ◌==◌, Bool, if◌then◌else◌, nat_lt, List, [], ◌∷◌, ◌++◌, length}
 use Rattle.std.specs.List.{list_any}
-
--- one more, up to the last number of 64 bits
-abbrev pub counted : ℕ → ℕ
-counted n = min (n + 1) (2 ^ 64 - 1)
-
--- one more where the call failed
-abbrev pub faults_after : Bool → ℕ → ℕ
-faults_after good faults = if good then faults else counted faults
+use Rattle.gc_outside.specs.Faults.{counted}
 
 -- the numbers of the calls that are to fail, and how many calls there were
 pub record Plan : Type 0 where

@@ -1,7 +1,9 @@
 -- The files of a store, and what its calls do to them. Source: this project's own rule.
-use Rattle.std.specs.Prelude.{◌≡◌, ◌≢◌, ℕ, ◌<◌, ◌≤◌, ◌⊎◌, List, [], ◌++◌, length, Option, Some, None, IsSome, IsSomeAnd, unwrap_or}
+use Rattle.std.specs.Prelude.{◌≡◌, ◌≢◌, ℕ, ◌<◌, ◌≤◌, ◌⊎◌, Bool, true, false, List, [], ◌++◌, length, Option, Some, None, IsSome, IsSomeAnd, unwrap_or, Result, Ok, Err}
 use Rattle.gc_outside.specs.declared.store.Got.{Got}
 use Rattle.gc_outside.specs.declared.store.Got.TheVariants.{Bytes, Absent, Longer}
+use Rattle.gc_outside.specs.declared.store.GetError.{GetError}
+use Rattle.gc_outside.specs.declared.store.GetError.TheVariants.{Failed, NoMemory}
 
 -- the file of each name, if it is there
 abbrev pub Files : Type 0
@@ -23,6 +25,12 @@ abbrev pub IsWithin : ℕ → Got → Type 0
 IsWithin most (Bytes bytes) = length bytes ≤ most
 IsWithin most Absent = Unit {0}
 IsWithin most Longer = Unit {0}
+
+-- the store failed at a get; want of memory is no failure of the store
+abbrev pub is_failed : Result Got GetError → Bool
+is_failed (Ok got) = false
+is_failed (Err Failed) = true
+is_failed (Err NoMemory) = false
 
 -- a put is open; where the store tells its files, it is that of this name
 abbrev pub Opens : List ℕ → Option Files → Option (List ℕ) → Type 0

@@ -1,11 +1,10 @@
 // A store over the files of the system.
-ghost use Rattle.std.specs.Prelude.{◌≡◌, ◌≢◌, ◌≤◌, not, [], None, Some, Ok, Err, IfOk, IfErr, IfSome, IsSome, IsErrOf, OnOk, OnErr, is_ok};
+ghost use Rattle.std.specs.Prelude.{◌≡◌, ◌≢◌, ◌≤◌, not, [], None, Some, Ok, Err, IfOk, IfErr, IfSome, IsSome, IsErrOf, OnOk, OnErr, is_ok, is_err};
 ghost use Rattle.std.specs.Io.KnownBytes.{Appends};
 ghost use Rattle.std.specs.IoError.{error_kind};
-ghost use Rattle.gc_outside.specs.DirStore.{open_file, is_failed};
-ghost use Rattle.gc_outside.specs.Faults.{Rose};
-ghost use Rattle.gc_outside.specs.PlannedFaults.{counted, faults_after};
-ghost use Rattle.gc_outside.specs.Store.{Answers, AnswersFile, AppendsToOpen, ChangesFile, CutsOpen, IsWithin, LeavesOrEmpties};
+ghost use Rattle.gc_outside.specs.DirStore.{open_file};
+ghost use Rattle.gc_outside.specs.Faults.{Rose, CountsFaultIf, counted, faults_after};
+ghost use Rattle.gc_outside.specs.Store.{Answers, AnswersFile, AppendsToOpen, ChangesFile, CutsOpen, IsWithin, LeavesOrEmpties, is_failed};
 ghost use Rattle.gc_outside.specs.Told.{Told};
 
 use crate::faults::Failed;
@@ -119,6 +118,7 @@ impl<R: Files> Store for DirStore<'_, R> {
         ensures within { IfOk result (IsWithin most) }
         ensures cause { IsErrOf result GetError.Failed → Rose self.old.faults self.new.faults }
         ensures count { self.old.faults ≤ self.new.faults }
+        ensures counted { CountsFaultIf (is_failed result) self.old.faults self.new.faults }
     {
         let got = answer_of(fs::open(self.rt, name), alloc, most);
         if let Err(GetError::Failed) = got {
@@ -128,8 +128,6 @@ impl<R: Files> Store for DirStore<'_, R> {
     }
 
     fn begin_put(&mut self, name: &str) -> Result<(), Failed>
-        ensures counted { self.new.faults ≡ faults_after (is_ok result) self.old.faults }
-
         // As of every store.
         ensures empty { OnOk result (Told (ChangesFile name.now (Some [])) None None) }
         ensures kept { OnErr result (Told (LeavesOrEmpties name.now) None None) }
@@ -137,6 +135,7 @@ impl<R: Files> Store for DirStore<'_, R> {
         ensures ended { OnErr result (open_file self.new.file ≡ None) }
         ensures cause { OnErr result (Rose self.old.faults self.new.faults) }
         ensures count { self.old.faults ≤ self.new.faults }
+        ensures counted { CountsFaultIf (is_err result) self.old.faults self.new.faults }
     {
         self.file = fs::create(self.rt, name).ok();
         if self.file.is_none() {
@@ -151,7 +150,6 @@ impl<R: Files> Store for DirStore<'_, R> {
         // Where the file is one whose bytes are known, it gained these.
         ensures written { OnOk result (IfSome self.old.file (λ old. IfSome self.new.file (λ new.
             Appends (R.File.contents old) (R.File.contents new) bytes.now))) }
-        ensures counted { self.new.faults ≡ faults_after (is_ok result) self.old.faults }
 
         // As of every store.
         ensures whole { OnOk result (Told (AppendsToOpen (open_file self.old.file) bytes.now) None None) }
@@ -160,6 +158,7 @@ impl<R: Files> Store for DirStore<'_, R> {
         ensures ended { OnErr result (open_file self.new.file ≡ None) }
         ensures cause { OnErr result (Rose self.old.faults self.new.faults) }
         ensures count { self.old.faults ≤ self.new.faults }
+        ensures counted { CountsFaultIf (is_err result) self.old.faults self.new.faults }
     {
         let Some(mut file) = self.file.take() else {
             unreachable!()
@@ -179,6 +178,7 @@ impl<R: Files> Store for DirStore<'_, R> {
         ensures front { OnErr result (Told (CutsOpen (open_file self.old.file) []) None None) }
         ensures cause { OnErr result (Rose self.old.faults self.new.faults) }
         ensures count { self.old.faults ≤ self.new.faults }
+        ensures counted { CountsFaultIf (is_err result) self.old.faults self.new.faults }
     {
         let Some(mut file) = self.file.take() else {
             unreachable!()

@@ -1,6 +1,6 @@
 // A sink in memory, for tests.
-ghost use Rattle.std.specs.Prelude.{◌≡◌, ℕ, ◌≤◌, [], IfOk, OnOk, OnErr, is_ok, Some};
-ghost use Rattle.gc_outside.specs.Faults.{Rose};
+ghost use Rattle.std.specs.Prelude.{◌≡◌, ℕ, ◌≤◌, [], IfOk, OnOk, OnErr, is_ok, is_err, Some};
+ghost use Rattle.gc_outside.specs.Faults.{Rose, CountsFaultIf};
 ghost use Rattle.gc_outside.specs.Sink.{Appends, AppendsFront};
 ghost use Rattle.gc_outside.specs.PlannedFaults.{no_plan, has_free_number, with_failing};
 ghost use Rattle.gc_outside.specs.MemSink.{emits, emitted};
@@ -71,6 +71,7 @@ impl Sink for MemSink {
         ensures front { OnErr result (AppendsFront bytes.now self.old.taken.bytes self.new.taken.bytes) }
         ensures cause { OnErr result (Rose self.old.faults self.new.faults) }
         ensures count { self.old.faults ≤ self.new.faults }
+        ensures counted { CountsFaultIf (is_err result) self.old.faults self.new.faults }
     {
         if self.plan.next_fails() || self.taken.append(bytes) > 0 {
             self.faults = self.faults.saturating_add(1);

@@ -1,8 +1,8 @@
 // A store in memory, for tests.
-ghost use Rattle.std.specs.Prelude.{◌≡◌, ℕ, ◌≤◌, false, [], Some, None, IfOk, OnOk, OnErr, IsSome, IsErrOf, is_ok, option_copied, ◌↔◌};
-ghost use Rattle.gc_outside.specs.Faults.{Rose};
-ghost use Rattle.gc_outside.specs.Store.{AnswersFile, IsWithin, ChangesFile, LeavesOrEmpties, AppendsToOpen, SameFiles, CutsOpen};
-ghost use Rattle.gc_outside.specs.PlannedFaults.{no_plan, has_free_number, with_failing, counted};
+ghost use Rattle.std.specs.Prelude.{◌≡◌, ℕ, ◌≤◌, false, [], Some, None, IfOk, OnOk, OnErr, IsSome, IsErrOf, is_ok, is_err, option_copied, ◌↔◌};
+ghost use Rattle.gc_outside.specs.Faults.{Rose, CountsFaultIf, counted};
+ghost use Rattle.gc_outside.specs.Store.{AnswersFile, IsWithin, is_failed, ChangesFile, LeavesOrEmpties, AppendsToOpen, SameFiles, CutsOpen};
+ghost use Rattle.gc_outside.specs.PlannedFaults.{no_plan, has_free_number, with_failing};
 ghost use Rattle.gc_outside.specs.KeptFiles.{file_of, can_add};
 ghost use Rattle.gc_outside.specs.MemStore.{open_name, goes_well, got, begins, begun, pieces, pieced, ended, added};
 
@@ -96,6 +96,7 @@ impl Store for MemStore {
         ensures within { IfOk result (IsWithin most) }
         ensures cause { IsErrOf result GetError.Failed → Rose self.old.faults self.new.faults }
         ensures count { self.old.faults ≤ self.new.faults }
+        ensures counted { CountsFaultIf (is_failed result) self.old.faults self.new.faults }
     {
         if self.plan.next_fails() {
             self.failed();
@@ -115,6 +116,7 @@ impl Store for MemStore {
         ensures ended { OnErr result (open_name self.new ≡ None) }
         ensures cause { OnErr result (Rose self.old.faults self.new.faults) }
         ensures count { self.old.faults ≤ self.new.faults }
+        ensures counted { CountsFaultIf (is_err result) self.old.faults self.new.faults }
     {
         self.is_open = !self.plan.next_fails() && self.kept.has_place(name);
         if !self.is_open {
@@ -136,6 +138,7 @@ impl Store for MemStore {
         ensures ended { OnErr result (open_name self.new ≡ None) }
         ensures cause { OnErr result (Rose self.old.faults self.new.faults) }
         ensures count { self.old.faults ≤ self.new.faults }
+        ensures counted { CountsFaultIf (is_err result) self.old.faults self.new.faults }
     {
         self.is_open = !self.plan.next_fails() && bytes.len() <= self.kept.spare_room();
         if !self.is_open {
@@ -156,6 +159,7 @@ impl Store for MemStore {
         ensures ended { open_name self.new ≡ None }
         ensures cause { OnErr result (Rose self.old.faults self.new.faults) }
         ensures count { self.old.faults ≤ self.new.faults }
+        ensures counted { CountsFaultIf (is_err result) self.old.faults self.new.faults }
     {
         self.is_open = false;
         if self.plan.next_fails() {

@@ -1,8 +1,7 @@
 // A sink over a stream of the system.
-ghost use Rattle.std.specs.Prelude.{◌≡◌, ◌≤◌, None, OnOk, OnErr, is_ok};
+ghost use Rattle.std.specs.Prelude.{◌≡◌, ◌≤◌, None, OnOk, OnErr, is_err};
 ghost use Rattle.std.specs.Io.KnownBytes.{Appends};
-ghost use Rattle.gc_outside.specs.Faults.{Rose};
-ghost use Rattle.gc_outside.specs.PlannedFaults.{faults_after};
+ghost use Rattle.gc_outside.specs.Faults.{Rose, CountsFaultIf};
 
 use crate::faults::Failed;
 use crate::sink::Sink;
@@ -46,11 +45,11 @@ impl<W: Write + Drop> Sink for StdSink<W> {
     fn emit(&mut self, bytes: &[u8]) -> Result<(), Failed>
         // Where the stream is one whose bytes are known, it gained these.
         ensures written { OnOk result (Appends (W.contents self.old.stream) (W.contents self.new.stream) bytes.now) }
-        ensures counted { self.new.faults ≡ faults_after (is_ok result) self.old.faults }
 
         // As of every sink.
         ensures cause { OnErr result (Rose self.old.faults self.new.faults) }
         ensures count { self.old.faults ≤ self.new.faults }
+        ensures counted { CountsFaultIf (is_err result) self.old.faults self.new.faults }
     {
         match self.stream.write_all(bytes) {
             Ok(()) => Ok(()),

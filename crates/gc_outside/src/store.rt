@@ -1,6 +1,6 @@
 // A store of files by name.
-ghost use Rattle.std.specs.Prelude.{◌≡◌, ℕ, ◌≤◌, List, [], Option, Some, None, IsSome, OnOk, OnErr, IfOk, IsErrOf};
-ghost use Rattle.gc_outside.specs.Faults.{Rose};
+ghost use Rattle.std.specs.Prelude.{◌≡◌, ℕ, ◌≤◌, List, [], Option, Some, None, IsSome, OnOk, OnErr, IfOk, IsErrOf, is_err};
+ghost use Rattle.gc_outside.specs.Faults.{Rose, CountsFaultIf};
 ghost use Rattle.gc_outside.specs.Told.{Told};
 
 use crate::faults::Failed;
@@ -35,9 +35,10 @@ pub enum GetError {
 /// - `files` is the file of each name, where the store tells it.
 /// - `open_put` is the name of the file whose put is open. That a put is open is always told; which file it is means something
 ///   only where `files` is told.
-/// - `faults` counts the calls that failed. It never falls, and stands still at 2^64 - 1, its last value.
+/// - `faults` counts the calls that failed, each once, and nothing else. It never falls, and stands still at 2^64 - 1, its last
+///   value.
 pub trait Store {
-    ghost use Rattle.gc_outside.specs.Store.{Files, Answers, IsWithin, Opens, ChangesFile, LeavesOrEmpties, AppendsToOpen, SameFiles, CutsOpen};
+    ghost use Rattle.gc_outside.specs.Store.{Files, Answers, IsWithin, is_failed, Opens, ChangesFile, LeavesOrEmpties, AppendsToOpen, SameFiles, CutsOpen};
 
     ghost files: { Self → Option Files };
 
@@ -52,7 +53,8 @@ pub trait Store {
         ensures same_files { files self.new ≡ files self.old }
         ensures same_put { open_put self.new ≡ open_put self.old }
         ensures cause { IsErrOf result GetError.Failed → Rose (faults self.old) (faults self.new) }
-        ensures count { faults self.old ≤ faults self.new };
+        ensures count { faults self.old ≤ faults self.new }
+        ensures counted { CountsFaultIf (is_failed result) (faults self.old) (faults self.new) };
 
     /// Makes the file empty and opens it. Where a put is open, that one ends first, as it is.
     fn begin_put(&mut self, name: &str) -> Result<(), Failed>
@@ -63,7 +65,8 @@ pub trait Store {
         ensures kept { OnErr result (Told (LeavesOrEmpties name.now) (files self.old) (files self.new)) }
         ensures ended { OnErr result (open_put self.new ≡ None) }
         ensures cause { OnErr result (Rose (faults self.old) (faults self.new)) }
-        ensures count { faults self.old ≤ faults self.new };
+        ensures count { faults self.old ≤ faults self.new }
+        ensures counted { CountsFaultIf (is_err result) (faults self.old) (faults self.new) };
 
     /// Appends to the open file.
     fn piece(&mut self, bytes: &[u8]) -> Result<(), Failed>
@@ -75,7 +78,8 @@ pub trait Store {
         ensures front { OnErr result (Told (CutsOpen (open_put self.old) bytes.now) (files self.old) (files self.new)) }
         ensures ended { OnErr result (open_put self.new ≡ None) }
         ensures cause { OnErr result (Rose (faults self.old) (faults self.new)) }
-        ensures count { faults self.old ≤ faults self.new };
+        ensures count { faults self.old ≤ faults self.new }
+        ensures counted { CountsFaultIf (is_err result) (faults self.old) (faults self.new) };
 
     /// Ends the open put.
     fn end_put(&mut self) -> Result<(), Failed>
@@ -84,5 +88,6 @@ pub trait Store {
         ensures front { OnErr result (Told (CutsOpen (open_put self.old) []) (files self.old) (files self.new)) }
         ensures ended { open_put self.new ≡ None }
         ensures cause { OnErr result (Rose (faults self.old) (faults self.new)) }
-        ensures count { faults self.old ≤ faults self.new };
+        ensures count { faults self.old ≤ faults self.new }
+        ensures counted { CountsFaultIf (is_err result) (faults self.old) (faults self.new) };
 }
