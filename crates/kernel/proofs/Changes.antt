@@ -13,38 +13,39 @@ use Rattle.gm_model.specs.Command.{resume_step}
 use Rattle.gm_model.specs.Sys.{Sys}
 use Rattle.gm_model.specs.View.{own_ram}
 use Rattle.gm_model.specs.Start.{commanded, commanded_events, resumed_state, start_state, with_raw}
-use Rattle.gm_model.specs.Sound.{IsSound, given_table}
+use Rattle.gm_system.specs.Machine.{IsMachineSound}
+use Rattle.gm_words.specs.Slots.{given_table}
 use Rattle.cfg_tree.specs.Valid.{IsValidConfig}
-use Rattle.gm_model.specs.Platform.{platform}
+use Rattle.gm_words.specs.Platform.{platform}
 use Rattle.cfg_tree.specs.declared.config.Config.{Config}
-use Rattle.gm_model.specs.declared.kind.Kind.TheVariants as kinds
-use Rattle.gm_model.proofs.Started.{starts_sound}
+use Rattle.gm_words.specs.declared.kind.Kind.TheVariants as kinds
+use Rattle.gm_system.proofs.ForKernel.{built_sound as started_sound, put_sound as raw_sound, resumed_sound}
 use Rattle.obj_core.specs.Events.{with_changes}
 use Rattle.obj_core.specs.Handles.{HasHandles}
-use Rattle.kernel.proofs.UnderWay.{part_handles}
+use Rattle.kernel.proofs.UnderWay.{handles_at}
 
-pub put_sound : (s s' : Sys) (table table' : List Slot) (address : ℕ) (bytes : List ℕ) → IsSound s table → 0x80000000 ≤ address
-    → address - 0x80000000 + length bytes ≤ length (own_ram s.objects) → s' ≡ with_raw (0x80000000 + (address - 0x80000000)) bytes s → table' ≡ table → IsSound s' table'
+pub put_sound : (s s' : Sys) (table table' : List Slot) (address : ℕ) (bytes : List ℕ) → IsMachineSound s table → 0x80000000 ≤ address
+    → address - 0x80000000 + length bytes ≤ length (own_ram s.objects) → s' ≡ with_raw (0x80000000 + (address - 0x80000000)) bytes s → table' ≡ table → IsMachineSound s' table'
 put_sound s s' table table' address bytes h l m e t =
     let back : 0x80000000 + (address - 0x80000000) ≡ address = omega (arith, l) in
-    let P : Sys → Type 0 = λ x. IsSound x table' in
-    let Q : List Slot → Type 0 = λ x. IsSound (with_raw address bytes s) x in
+    let P : Sys → Type 0 = λ x. IsMachineSound x table' in
+    let Q : List Slot → Type 0 = λ x. IsMachineSound (with_raw address bytes s) x in
     let R : ℕ → Type 0 = λ n. s' ≡ with_raw n bytes s in
-    subst P (sym (subst R back e)) (subst Q (sym t) (starts_sound.put s table address bytes h m))
+    subst P (sym (subst R back e)) (subst Q (sym t) (raw_sound s table address bytes h m))
 
 pub built_sound : (c : Config) (s : Sys) (table : List Slot) → IsValidConfig c → c.system_model ≡ false → s ≡ start_state c 0x80000000 []
-    → table ≡ given_table 0 (platform c) → IsSound s table
+    → table ≡ given_table 0 (platform c) → IsMachineSound s table
 built_sound c s table v m e t =
-    let P : Sys → Type 0 = λ x. IsSound x table in
-    let Q : List Slot → Type 0 = λ x. IsSound (start_state c 0x80000000 []) x in
-    subst P (sym e) (subst Q (sym t) (starts_sound.start c 0x80000000 v m))
+    let P : Sys → Type 0 = λ x. IsMachineSound x table in
+    let Q : List Slot → Type 0 = λ x. IsMachineSound (start_state c 0x80000000 []) x in
+    subst P (sym e) (subst Q (sym t) (started_sound c 0x80000000 [] v m (omega arith)))
 
-pub resume_sound : (s s' : Sys) (table table' : List Slot) → IsSound s table → s' ≡ commanded (λ o. resume_step o s.tick) s → table' ≡ table
-    → IsSound (record s' { draining = false }) table'
+pub resume_sound : (s s' : Sys) (table table' : List Slot) → IsMachineSound s table → s' ≡ commanded (λ o. resume_step o s.tick) s → table' ≡ table
+    → IsMachineSound (record s' { draining = false }) table'
 resume_sound s s' table table' h e t =
-    let P : Sys → Type 0 = λ x. IsSound (record x { draining = false }) table' in
-    let Q : List Slot → Type 0 = λ x. IsSound (resumed_state s) x in
-    subst P (sym e) (subst Q (sym t) (starts_sound.resumed s table h))
+    let P : Sys → Type 0 = λ x. IsMachineSound (record x { draining = false }) table' in
+    let Q : List Slot → Type 0 = λ x. IsMachineSound (resumed_state s) x in
+    subst P (sym e) (subst Q (sym t) (resumed_sound s table h))
 
 -- the parts from a place on are commanded
 abbrev pub commanded_from : (ObjState → Commanded) → ℕ → List ObjState → List ObjState
@@ -122,7 +123,7 @@ module _ {X : Type 0} (f : X → ObjState) (c : ObjState → Commanded) (all : L
         rw (add-one, w) (subst P rest_first h)
 
 -- a part that wasn't commanded yet has its handles
-pub handles_still : {X : Type 0} (f : X → ObjState) (s : Sys) (table table' : List Slot) (xs : List X) (i : ℕ) (b : X) → IsSound s table → table' ≡ table
+pub handles_still : {X : Type 0} (f : X → ObjState) (s : Sys) (table table' : List Slot) (xs : List X) (i : ℕ) (b : X) → IsMachineSound s table → table' ≡ table
     → i < length xs → b ≡ get_or xs i b → drop i (map f xs) ≡ drop i s.objects → HasHandles table' (f b)
 handles_still f s table table' xs i b h t here is rest = by_place (cases_lt i (length s.objects)) where
   nothing : Commanded
@@ -132,5 +133,28 @@ handles_still f s table table' xs i b h t here is rest = by_place (cases_lt i (l
   by_place (inl l) =
       let same = untouched f (λ o. nothing) s.objects xs i b b here is rest in
       let P : ObjState → Type 0 = λ o. HasHandles table' o in
-      subst P same (rw t (part_handles s table i h l))
+      subst P same (rw t (handles_at s table i h l))
   by_place (inr l) = let none : ◌≡◌ {A = List ObjState} [] (f b ∷ drop (suc i) s.objects) = sym (drop_of_length-le s.objects l) ∙ rest_first f (λ o. nothing) s.objects xs i b b here is rest in cc
+
+-- two machines that agree in each field
+pub sys_same : (s t : Sys) → s.tick ≡ t.tick → s.pending ≡ t.pending → s.objects ≡ t.objects → s.next ≡ t.next → s.counts ≡ t.counts → s.rebased ≡ t.rebased → s.trace ≡ t.trace
+    → s.draining ≡ t.draining → s.wires ≡ t.wires → s.router ≡ t.router → s ≡ t
+sys_same s t a b c d e f g h i j =
+    ap (λ x. record s { tick = x }) a
+    ∙ (ap (λ x. record s { tick = t.tick; pending = x }) b
+    ∙ (ap (λ x. record s { tick = t.tick; pending = t.pending; objects = x }) c
+    ∙ (ap (λ x. record s { tick = t.tick; pending = t.pending; objects = t.objects; next = x }) d
+    ∙ (ap (λ x. record s { tick = t.tick; pending = t.pending; objects = t.objects; next = t.next; counts = x }) e
+    ∙ (ap (λ x. record s { tick = t.tick; pending = t.pending; objects = t.objects; next = t.next; counts = t.counts; rebased = x }) f
+    ∙ (ap (λ x. record t { trace = x; draining = s.draining; wires = s.wires; router = s.router }) g
+    ∙ (ap (λ x. record t { draining = x; wires = s.wires; router = s.router }) h
+    ∙ (ap (λ x. record t { wires = x; router = s.router }) i
+    ∙ ap (λ x. record t { router = x }) j))))))))
+
+-- once all parts were commanded, these are their states, and these events are pending
+pub all_commanded : {X : Type 0} (f : X → ObjState) (k : ObjState → Commanded) (xs : List X) (i : ℕ) (all : List ObjState) → length xs ≤ i
+    → commanded_from k i (map f xs) ≡ all → map f xs ≡ all
+all_commanded f k xs i all l h = sym (from_end k i (map f xs) (rw length-map l)) ∙ h
+
+pub all_changed : (k : ObjState → Commanded) (i : ℕ) (os : List ObjState) (es all : List Due) → length os ≤ i → commanded_events k (drop i os) es ≡ all → es ≡ all
+all_changed k i os es all l h = ap (λ xs. commanded_events k xs es) (sym (drop_of_length-le os l)) ∙ h

@@ -1,25 +1,28 @@
 -- Items that are delivered one after another.
-use Rattle.std.proofs.Common.{◌≡◌, ℕ, suc, zero, ◌+◌, ◌-◌, ◌<◌, ◌≤◌, ◌==◌, ◌⊎◌, inl, inr, Bool, true, length, refl, sym, ◌∙◌, ap, subst, arith, List, [], ◌∷◌, ◌++◌, drop}
+use Rattle.std.proofs.Common.{◌≡◌, ℕ, suc, zero, ◌+◌, ◌-◌, ◌<◌, ◌≤◌, ◌==◌, ◌⊎◌, inl, inr, true, length, refl, sym, ◌∙◌, ap, subst, arith, List, [], ◌∷◌, ◌++◌, drop}
 use Rattle.std.proofs.lemmas.Bool.{cases_lt, eqb-true}
 use Rattle.std.proofs.lemmas.List.{length-append}
 use Rattle.ev_queue.specs.declared.slot.Slot.{Slot}
-use Rattle.gm_model.specs.Router.{destination}
-use Rattle.gm_model.specs.Sys.{Sys}
-use Rattle.gm_model.specs.Deliver.{Item, Sent, Done, Delivery, handle, deliver, deliver_first, deliver_wake, deliver_atomic}
+use Rattle.gm_words.specs.Router.{destination}
+use Rattle.gm_model.specs.Sys.{Sys, step_at}
+use Rattle.gm_words.specs.Platform.{End}
+use Rattle.gm_words.specs.declared.answer.Answer.{Answer}
+use Rattle.gm_words.specs.declared.wake.Wake.{Wake}
+use Rattle.gm_model.specs.Deliver.{Item, Sent, Done, Delivery, handle, deliver, deliver_first, deliver_wake, deliver_offer, done_at, deliver_atomic, told_wake}
 use Rattle.gc_base.specs.declared.ids.ObjId.{ObjId}
 use Rattle.gc_base.specs.declared.ids.PortNo.{PortNo}
-use Rattle.gm_model.specs.declared.act.Act.{Act}
-use Rattle.gm_model.specs.declared.act.Act.TheVariants as acts
-use Rattle.gm_model.specs.declared.packet.Packet.{Packet}
-use Rattle.gm_model.specs.declared.wake.Wake.TheVariants as wakes
+use Rattle.gm_words.specs.declared.act.Act.{Act}
+use Rattle.gm_words.specs.declared.act.Act.TheVariants as acts
+use Rattle.gm_words.specs.declared.packet.Packet.{Packet}
+use Rattle.gm_words.specs.declared.wake.Wake.TheVariants as wakes
 use Rattle.ev_queue.specs.declared.due.Due.{Due}
 use Rattle.gm_model.specs.Fire.{event_begun}
 use Rattle.obj_core.specs.Out.{item_of}
 use Rattle.obj_core.specs.declared.item.Item.{Item as KeptItem}
 use Rattle.obj_core.specs.declared.item.Item.TheVariants as kept
-use Rattle.kernel.specs.Ready.{IsReadyForWake, IsUnderWay, Delivers, HasItemRoom, MayServe, not_begun, answered}
-use Rattle.kernel.proofs.Deliveries.{deliver_least, deliver_none, deliver_then}
-use Rattle.kernel.proofs.UnderWay.{IsCountable, done_ready, first_under_way, all_delivered, under_way_countable}
+use Rattle.kernel.specs.Ready.{IsReadyForWake, IsUnderWay, Delivers, HasItemRoom, MayOffer, MayServe, not_begun}
+use Rattle.kernel.proofs.Deliveries.{deliver_none, deliver_then}
+use Rattle.kernel.proofs.UnderWay.{IsCountable, done_ready, first_under_way, all_delivered, items_few, under_way_countable}
 
 -- after so many deliveries the event is still under way
 pub more_under_way : (n : ℕ) (d : Delivery) (table : List Slot) → IsUnderWay d table → IsUnderWay (deliver n d) table
@@ -65,9 +68,6 @@ delivers_last n d e table none h t = by_order (cases_lt t.count 256) where
   by_order (inr l) = delivers_all t.count d e table l h (record { count = t.count; enough = omega arith; delivered = t.delivered })
 
 -- there is always room for what the first item causes
-pub items_few : (d : Delivery) (table : List Slot) → IsUnderWay d table → length d.items ≤ 256
-items_few d table h = omega (arith, deliver_least 256 d, ap (λ xs. length xs) (all_delivered d table h))
-
 pub rest_room : (d : Delivery) (table : List Slot) (i : Item) (is : List Item) → d.items ≡ i ∷ is → IsUnderWay d table → HasItemRoom (record d { items = is })
 rest_room d table i is e h = omega (arith, items_few d table h, ap (λ xs. length xs) e)
 
@@ -98,7 +98,7 @@ pub done_first : (items : List Item) (k : KeptItem) (sender : ObjId) (p : Packet
 done_first items k sender p latency e f = let P : KeptItem → Type 0 = λ x. items ≡ item_of x ∷ drop 1 items in subst P f e
 
 -- a sender is told at once
-pub told_now : (d e : Delivery) (i latency : ℕ) (p : Packet) → d.items ≡ [] → e ≡ deliver_wake d i (wakes.AtomicDone p latency) → Delivers 0 (answered d i p latency) e
+pub told_now : (d e : Delivery) (i latency : ℕ) (p : Packet) → d.items ≡ [] → e ≡ deliver_wake d i (wakes.AtomicDone p latency) → Delivers 0 (done_at d i p latency) e
 unfolding deliver
 told_now d e i latency p none f = record {
   count = 1;
@@ -109,28 +109,28 @@ told_now d e i latency p none f = record {
 }
 
 -- or later
-pub told_later : (d e : Delivery) (i latency : ℕ) (p : Packet) → e ≡ answered d i p latency → Delivers 0 (answered d i p latency) e
+pub told_later : (d e : Delivery) (i latency : ℕ) (p : Packet) → e ≡ done_at d i p latency → Delivers 0 (done_at d i p latency) e
 unfolding deliver
 told_later d e i latency p f = record { count = 0; enough = omega arith; delivered = f }
 
 -- the first item is a packet, which was passed on: `after` is the machine before its sender is told
 module _ (d : Delivery) (table : List Slot) (i : ℕ) (port : PortNo) (p : Packet) (is : List Item) (e : d.items ≡ Sent i (acts.Atomic port p) ∷ is) (h : IsUnderWay d table)
-    (after : Delivery) (q : Packet) (latency : ℕ) (m : answered after i q latency ≡ deliver_atomic (record d { items = is }) i p (destination d.sys.router.routes p.addr)) where
-  passed_first : answered after i q latency ≡ deliver_first d d.items
+    (after : Delivery) (q : Packet) (latency : ℕ) (m : done_at after i q latency ≡ deliver_atomic (record d { items = is }) i p (destination d.sys.router.routes p.addr)) where
+  passed_first : done_at after i q latency ≡ deliver_first d d.items
   passed_first = m ∙ sym (ap (λ xs. deliver_first d xs) e)
 
-  passed_under_way : IsUnderWay (answered after i q latency) table
+  passed_under_way : IsUnderWay (done_at after i q latency) table
   passed_under_way = let P : Delivery → Type 0 = λ x. IsUnderWay x table in subst P (sym passed_first) (first_under_way d table h)
 
   pub answer_room : HasItemRoom after
-  answer_room = omega (arith, items_few (answered after i q latency) table passed_under_way, length-append after.items (Done i q latency ∷ []))
+  answer_room = omega (arith, items_few (done_at after i q latency) table passed_under_way, length-append after.items (Done i q latency ∷ []))
 
   pub answer_ready : after.items ≡ [] → IsReadyForWake after table i (wakes.AtomicDone q latency)
   answer_ready none =
       let P : List Item → Type 0 = λ xs. IsReadyForWake (record after { items = xs }) table i (wakes.AtomicDone q latency) in
-      subst P (sym none) (done_ready (answered after i q latency) table i latency q [] (ap (λ xs. xs ++ Done i q latency ∷ []) none) passed_under_way)
+      subst P (sym none) (done_ready (done_at after i q latency) table i latency q [] (ap (λ xs. xs ++ Done i q latency ∷ []) none) passed_under_way)
 
-  pub packet_delivered : (last : Delivery) → Delivers 0 (answered after i q latency) last → Delivers 1 d last
+  pub packet_delivered : (last : Delivery) → Delivers 0 (done_at after i q latency) last → Delivers 1 d last
   unfolding deliver
   packet_delivered last t = record {
     count = suc t.count;
@@ -146,3 +146,38 @@ countable s e table d w v h idle begun delivered =
     let all : v ≡ deliver 256 (event_begun s e) = delivered ∙ ap (λ x. deliver 256 x) first in
     let Q : Delivery → Type 0 = IsCountable in
     subst Q (sym all) (under_way_countable (deliver 256 (event_begun s e)) table (more_under_way 256 (event_begun s e) table h.under_way))
+
+-- a packet is shown to the peer that was looked up, and then its answer told
+module _ (d d' : Delivery) (table : List Slot) (i port : ℕ) (p : Packet) (e peer : End) (a : Answer) (w : Wake) (same : e ≡ peer)
+    (shown : d' ≡ deliver_wake d e.part (wakes.Offer (record { 0 = e.port }) p)) (answer : a ≡ (step_at d.sys e.part (wakes.Offer (record { 0 = e.port }) p)).answer)
+    (told : w ≡ told_wake a port) where
+  told_is : w ≡ told_wake (step_at d.sys peer.part (wakes.Offer (record { 0 = peer.port }) p)).answer port
+  told_is = told ∙ (ap (λ b. told_wake b port) answer ∙ ap (λ (q : End). told_wake (step_at d.sys q.part (wakes.Offer (record { 0 = q.port }) p)).answer port) same)
+
+  shown_is : d' ≡ deliver_wake d peer.part (wakes.Offer (record { 0 = peer.port }) p)
+  shown_is = shown ∙ ap (λ (q : End). deliver_wake d q.part (wakes.Offer (record { 0 = q.port }) p)) same
+
+  pub told_ready : (table' : List Slot) → table' ≡ table → MayOffer d table i port p peer → IsReadyForWake d' table' i w
+  told_ready table' t m =
+      subst (λ x. IsReadyForWake d' x i w) (sym t) (subst (λ v. IsReadyForWake d' table i v) (sym told_is) (subst (λ x. IsReadyForWake x table i
+      (told_wake (step_at d.sys peer.part (wakes.Offer (record { 0 = peer.port }) p)).answer port)) (sym shown_is) m.told))
+
+  pub told_room : MayOffer d table i port p peer → HasItemRoom d'
+  told_room m = subst HasItemRoom (sym shown_is) m.room
+
+  pub offer_delivered : (last : Delivery) → last ≡ deliver_wake d' i w → last ≡ deliver_offer d i port p peer
+  offer_delivered last h = h ∙ (ap (λ v. deliver_wake d' i v) told_is
+      ∙ ap (λ x. deliver_wake x i (told_wake (step_at d.sys peer.part (wakes.Offer (record { 0 = peer.port }) p)).answer port)) shown_is)
+
+pub shown_ready : (d : Delivery) (table : List Slot) (i port : ℕ) (p : Packet) (e peer : End) → e ≡ peer → MayOffer d table i port p peer
+    → IsReadyForWake d table e.part (wakes.Offer (record { 0 = e.port }) p)
+shown_ready d table i port p e peer same m = subst (λ (q : End). IsReadyForWake d table q.part (wakes.Offer (record { 0 = q.port }) p)) (sym same) m.shown
+
+-- the peer that was looked up is called
+pub called_ready : (d : Delivery) (table : List Slot) (e peer : End) → e ≡ peer → IsReadyForWake d table peer.part (wakes.Retry (record { 0 = peer.port }))
+    → IsReadyForWake d table e.part (wakes.Retry (record { 0 = e.port }))
+called_ready d table e peer same h = subst (λ (q : End). IsReadyForWake d table q.part (wakes.Retry (record { 0 = q.port }))) (sym same) h
+
+pub called_delivered : (d d' : Delivery) (e peer : End) → e ≡ peer → d' ≡ deliver_wake d e.part (wakes.Retry (record { 0 = e.port }))
+    → d' ≡ deliver_wake d peer.part (wakes.Retry (record { 0 = peer.port }))
+called_delivered d d' e peer same h = h ∙ ap (λ (q : End). deliver_wake d q.part (wakes.Retry (record { 0 = q.port }))) same

@@ -1,20 +1,21 @@
 -- What deliveries leave of a machine, whichever they are.
 use Rattle.std.proofs.Common.{◌≡◌, ℕ, suc, zero, ◌+◌, ◌≤◌, length, refl, sym, ◌∙◌, ap, subst, arith, List, [], ◌∷◌, ◌++◌, Option, Some, None}
 use Rattle.std.proofs.lemmas.List.{length-append}
-use Rattle.gm_model.specs.Router.{destination}
-use Rattle.gm_model.specs.Sys.{active_cpu, pass_at, step_at}
-use Rattle.gm_model.specs.Deliver.{Item, Sent, Done, Delivery, handle, deliver, deliver_first, deliver_wake, deliver_line, deliver_atomic, sent_by, way_latency}
-use Rattle.gm_model.specs.Packet.{fault_response}
-use Rattle.gm_model.specs.declared.act.Act.TheVariants as acts
-use Rattle.gm_model.specs.declared.wake.Wake.{Wake}
-use Rattle.gm_model.specs.declared.wake.Wake.TheVariants as wakes
+use Rattle.gm_words.specs.Router.{destination}
+use Rattle.gm_words.specs.Platform.{End}
+use Rattle.gm_model.specs.Sys.{active_cpu, pass_at, peer_in, step_at}
+use Rattle.gm_model.specs.Deliver.{Item, Sent, Done, Delivery, handle, deliver, deliver_first, deliver_wake, deliver_line, deliver_atomic, told_wake, sent_by, way_latency}
+use Rattle.gm_words.specs.Packet.{fault_response}
+use Rattle.gm_words.specs.declared.act.Act.TheVariants as acts
+use Rattle.gm_words.specs.declared.wake.Wake.{Wake}
+use Rattle.gm_words.specs.declared.wake.Wake.TheVariants as wakes
 
 -- a delivery counts nothing
 counts_kept : (d : Delivery) (i : Item) → (handle d i).sys.counts ≡ d.sys.counts
 counts_kept d (Sent j (acts.Offer port p)) = refl
 counts_kept d (Sent j (acts.CallRetry port)) = refl
 counts_kept d (Sent j (acts.SetLine bit level)) = by_cpu (active_cpu d.sys.objects) where
-  by_cpu : (o : Option ℕ) → (deliver_line d j (wakes.Line bit level) o).sys.counts ≡ d.sys.counts
+  by_cpu : (o : Option ℕ) → (deliver_line d (wakes.Line bit level) o).sys.counts ≡ d.sys.counts
   by_cpu None = refl
   by_cpu (Some i) = refl
 counts_kept d (Sent j (acts.Atomic port p)) = by_route (destination d.sys.router.routes p.addr) where
@@ -37,10 +38,13 @@ wake_least : (d : Delivery) (i : ℕ) (w : Wake) → length d.items ≤ length (
 wake_least d i w = omega (arith, length-append d.items (sent_by i (step_at d.sys i w).acts))
 
 handle_least : (d : Delivery) (i : Item) → length d.items ≤ length (handle d i).items
-handle_least d (Sent j (acts.Offer port p)) = omega arith
-handle_least d (Sent j (acts.CallRetry port)) = omega arith
+handle_least d (Sent j (acts.Offer port p)) =
+    let q : End = peer_in d.sys.wires j port.0 in
+    let w : Wake = wakes.Offer (record { 0 = q.port }) p in
+    omega (arith, wake_least d q.part w, wake_least (deliver_wake d q.part w) j (told_wake (step_at d.sys q.part w).answer port.0))
+handle_least d (Sent j (acts.CallRetry port)) = let q : End = peer_in d.sys.wires j port.0 in wake_least d q.part (wakes.Retry (record { 0 = q.port }))
 handle_least d (Sent j (acts.SetLine bit level)) = by_cpu (active_cpu d.sys.objects) where
-  by_cpu : (o : Option ℕ) → length d.items ≤ length (deliver_line d j (wakes.Line bit level) o).items
+  by_cpu : (o : Option ℕ) → length d.items ≤ length (deliver_line d (wakes.Line bit level) o).items
   by_cpu None = omega arith
   by_cpu (Some i) = wake_least d i (wakes.Line bit level)
 handle_least d (Sent j (acts.Atomic port p)) = by_route (destination d.sys.router.routes p.addr) where

@@ -1,30 +1,11 @@
 -- Counting the entries of an event, one by one.
-use Rattle.std.proofs.Common.{◌≡◌, ℕ, ◌+◌, ◌<◌, ◌≤◌, arith, add-one, subst, List, [], ◌∷◌, length, drop, get_or}
+use Rattle.std.proofs.Common.{◌≡◌, ℕ, zero, suc, Bool, true, false, ◌+◌, ◌<◌, arith, add-one, subst, List, [], ◌∷◌, length, drop, get_or}
 use Rattle.std.proofs.Math.Seq.{drop-cons}
-use Rattle.gm_model.specs.Counts.{Counts, count_entry, count_entries}
-use Rattle.gm_model.specs.Sound.{AreUpTo, IsCountedUpTo}
-use Rattle.gm_model.specs.declared.entry.Entry.{Entry}
-use Rattle.gm_model.proofs.SoundEvents.{counted_entries, same_events}
-use Rattle.probe_stats.specs.Counted.{Counted}
-
-each_up_to : (n m : ℕ) (ks : List ℕ) → n ≤ m → AreUpTo n ks → AreUpTo m ks
-each_up_to n m [] l h = tt
-each_up_to n m (k ∷ ks) l h = (omega (arith, h.0), each_up_to n m ks l h.1)
-
--- what is at most n is at most m
-pub counted_up_to : (n m : ℕ) (c : Counts) → n ≤ m → IsCountedUpTo n c → IsCountedUpTo m c
-counted_up_to n m c l h = record {
-  retired = omega (arith, h.retired);
-  sleeps = omega (arith, h.sleeps);
-  traps = omega (arith, h.traps);
-  device_reads = omega (arith, h.device_reads);
-  device_writes = omega (arith, h.device_writes);
-  ram_reads = omega (arith, h.ram_reads);
-  ram_writes = omega (arith, h.ram_writes);
-  hits = each_up_to n m c.hits l h.hits;
-  misses = each_up_to n m c.misses l h.misses;
-  refused = each_up_to n m c.refused l h.refused;
-}
+use Rattle.gm_words.specs.Counts.{Counts, AreUpTo, count_entry, count_entries, IsCountedUpTo}
+use Rattle.gm_words.specs.declared.entry.Entry.{Entry}
+use Rattle.gm_words.proofs.CountLaws.{counted_at_most, counted_entries, same_events}
+use Rattle.gm_words.specs.declared.entry.Entry.TheVariants as entries
+use Rattle.probe_stats.specs.Counted.{Counted, IsBelowAt, IsAccessBelow, IsRaisedBelow}
 
 module _ (es : List Entry) (i : ℕ) (x : Entry) (c d : Counted) (here : i < length es)
     (noted : d ≡ record { counts = count_entry c.counts (get_or es i x); since = c.since }) where
@@ -37,7 +18,30 @@ module _ (es : List Entry) (i : ℕ) (x : Entry) (c d : Counted) (here : i < len
   pub counted_most : (n : ℕ) → IsCountedUpTo (n + i) c.counts → IsCountedUpTo (n + (i + 1)) d.counts
   counted_most n h =
       let e : Entry = get_or es i x in
-      rw noted (counted_up_to (n + i + length (e ∷ [])) (n + (i + 1)) (count_entry c.counts e) (omega arith) (counted_entries (n + i) c.counts (e ∷ []) h))
+      rw noted (counted_at_most (n + i + length (e ∷ [])) (n + (i + 1)) (count_entry c.counts e) (omega arith) (counted_entries (n + i) c.counts (e ∷ []) h))
 
   pub counted_events : d.counts.events ≡ c.counts.events
   counted_events = rw noted (same_events c.counts (get_or es i x ∷ []))
+
+-- where each counter is at most n, the one that is raised is below a larger number
+module _ (n m : ℕ) (l : n < m) where
+  below_at : (ks : List ℕ) (i : ℕ) → AreUpTo n ks → IsBelowAt m ks i
+  below_at [] i h = tt
+  below_at (k ∷ ks) zero h = omega (arith, h.0, l)
+  below_at (k ∷ ks) (suc i) h = below_at ks i h.1
+
+  access_below : (c : Counts) (device write : Bool) → IsCountedUpTo n c → IsAccessBelow m c device write
+  access_below c true true h = omega (arith, h.device_writes, l)
+  access_below c true false h = omega (arith, h.device_reads, l)
+  access_below c false true h = omega (arith, h.ram_writes, l)
+  access_below c false false h = omega (arith, h.ram_reads, l)
+
+  pub raised_below : (c : Counts) (e : Entry) → IsCountedUpTo n c → IsRaisedBelow m c e
+  raised_below c (entries.Served src id write addr size bytes device fault) h = access_below c device write h
+  raised_below c (entries.Retired pc word) h = omega (arith, h.retired, l)
+  raised_below c (entries.Trapped cause tval) h = omega (arith, h.traps, l)
+  raised_below c (entries.Line bit level) h = tt
+  raised_below c entries.Slept h = omega (arith, h.sleeps, l)
+  raised_below c (entries.Hit object) h = below_at c.hits object.0 h.hits
+  raised_below c (entries.Miss object) h = below_at c.misses object.0 h.misses
+  raised_below c (entries.Refused object) h = below_at c.refused object.0 h.refused

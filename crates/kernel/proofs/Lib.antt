@@ -5,6 +5,9 @@ pub mod UnderWay
 pub mod Delivered
 pub mod Changes
 pub mod Runs
-pub mod Picks
+pub mod Rows
+pub mod Tables
+pub mod Draws
 pub mod Loads
 pub mod SettledLemmas
+pub mod Loops

@@ -1,82 +1,37 @@
 -- A machine that is loaded with an image.
-use Rattle.std.proofs.Common.{◌≡◌, ℕ, ◌+◌, ◌-◌, ◌<◌, ◌≤◌, refl, sym, ◌∙◌, ap, subst, arith, All, Bool, false, [], ◌++◌, List, append-nil, drop, fold, get_or, length, map, replicate, take}
+use Rattle.std.proofs.Common.{◌≡◌, ℕ, ◌+◌, ◌-◌, ◌<◌, ◌≤◌, refl, sym, ◌∙◌, ap, subst, arith, All, Bool, true, false, IfSome, Option, Some, None, [], ◌++◌, List, append-nil, drop, fold, get_or, length, map, replicate}
 use Rattle.std.proofs.Math.ListN.{drop_of_length-le}
-use Rattle.std.proofs.lemmas.List.{length-replicate, length-take, take_all}
-use Rattle.std.proofs.lemmas.List.Elements.{All-get_or, All-take}
-use Rattle.std.proofs.lemmas.List.Sums.{fold_more}
+use Rattle.std.proofs.lemmas.List.{length-replicate}
 use Rattle.ev_queue.specs.declared.slot.Slot.{Slot}
 use Rattle.cfg_tree.specs.declared.config.Config.{Config}
-use Rattle.elf_image.proofs.RamLaws.{length-bytes_of_piece, length-loaded, ram_put-more, ram_put-nothing}
+use Rattle.elf_image.proofs.BlockLaws.{image_loaded, zeroed_is}
+use Rattle.elf_image.proofs.RamLaws.{length-loaded}
 use Rattle.elf_image.specs.Image.{LiesInRam}
-use Rattle.elf_image.specs.Ram.{bytes_of_piece, with_piece, ram_of}
+use Rattle.elf_image.specs.Loading.{Loading, PutsBlock, ram_so_far}
+use Rattle.elf_image.specs.Ram.{with_piece, ram_of}
 use Rattle.elf_image.specs.declared.image.Image.{Image}
 use Rattle.elf_image.specs.declared.piece.Piece.{Piece}
-use Rattle.gm_model.specs.AtomicMachine.{IsAtomicMachine, resting}
-use Rattle.gm_model.specs.Command.{with_bytes_at}
-use Rattle.gm_model.specs.ObjState.{ObjState, Device, Blank, AtomicCpu, Server, Rest, Memory, Uart, Exit}
-use Rattle.gm_model.specs.Sound.{HasSoundParts, IsSound}
+use Rattle.gm_model.specs.Memory.{with_bytes_at}
+use Rattle.gm_model.specs.ObjState.{ObjState, Device, Blank, AtomicCpu, Server, Memory, Uart, Exit, Timer}
+use Rattle.gm_system.specs.Machine.{IsMachineSound}
+use Rattle.gm_system.proofs.ForKernel.{put_size, bytes_size, rebuilt_sound}
 use Rattle.gm_model.specs.Start.{start_state, with_raw}
-use Rattle.gm_model.specs.Sys.{Sys}
+use Rattle.gm_model.specs.Sys.{Sys, object_at}
 use Rattle.gm_model.specs.View.{own_ram}
-use Rattle.gm_model.proofs.ReplayServes.{parts_are, rests}
-use Rattle.gm_model.proofs.ReplaySteps.{atomic}
-use Rattle.gm_model.proofs.Started.{put_size}
-use Rattle.rv_step.specs.Arch.{reset}
-use Rattle.rv_step.specs.FlatMem.{ram_base, ram_put}
-use Rattle.gm_model.specs.Drained.{IsDrained}
+use Rattle.gm_model.specs.Command.{own_bytes}
+use Rattle.rv_step.specs.FlatMem.{ram_base, ram_put, zeroed}
+use Rattle.gm_model.specs.Drained.{is_settled}
+use Rattle.kernel.proofs.Changes.{untouched}
 use Rattle.kernel.proofs.SettledLemmas.{start_settled}
 use Rattle.kernel.specs.Load.{IsAsBuilt, entered}
 use Rattle.kernel.specs.Settled.{IsSettled}
 
--- bytes that are put into RAM leave its size
-pub raw_size : (s : Sys) (table : List Slot) (address : ℕ) (bytes : List ℕ) → IsSound s table → address - ram_base + length bytes ≤ length (own_ram s.objects)
-    → length (own_ram (with_raw address bytes s).objects) ≡ length (own_ram s.objects)
-raw_size s table address bytes h l =
-    let P : Sys → Type 0 = λ t. address - ram_base + length bytes ≤ length (own_ram t.objects) → length (own_ram (with_raw address bytes t).objects) ≡ length (own_ram t.objects) in
-    subst P (parts_are s [] h.machine) (λ k. put_size h.machine.parts.ram (address - ram_base) bytes k) l
-
--- where nothing is put the machine is as it was
-pub raw_nothing : (s : Sys) (table : List Slot) (address : ℕ) → IsSound s table → with_raw address [] s ≡ s
-raw_nothing s table address h =
-    let x = h.machine.parts in
-    let P : Sys → Type 0 = λ t. with_raw address [] t ≡ t in
-    subst P (parts_are s [] h.machine) (ap (λ (m : List ℕ). atomic s (record x { ram = m })) (ram_put-nothing x.ram address))
-
--- bytes that are put behind the ones just put
-pub raw_more : (s : Sys) (table : List Slot) (address done n : ℕ) (bytes : List ℕ) → IsSound s table → ram_base ≤ address
-    → address - ram_base + length bytes ≤ length (own_ram s.objects) → done ≤ length bytes → n ≤ length (drop done bytes)
-    → with_raw (address + done) (take n (drop done bytes)) (with_raw address (take done bytes) s) ≡ with_raw address (take (done + n) bytes) s
-raw_more s table address done n bytes h above below l k =
-    let x = h.machine.parts in
-    let P : Sys → Type 0 = λ t. address - ram_base + length bytes ≤ length (own_ram t.objects)
-    → with_raw (address + done) (take n (drop done bytes)) (with_raw address (take done bytes) t) ≡ with_raw address (take (done + n) bytes) t in
-    subst P (parts_are s [] h.machine) (λ j. ap (λ (m : List ℕ). atomic s (record x { ram = m })) (ram_put-more x.ram address done n bytes above (omega (arith, above, j)) l k)) below
-
--- a machine stays sound when its hart is reset
-pub entered_sound : (s : Sys) (table : List Slot) (entry : ℕ) → IsSound s table → IsSound (entered entry s) table
-entered_sound s table entry h =
-    let x = h.machine.parts in
-    let stage = rests _ _ _ x.cpu.stage [] h.machine.step refl in
-    let same = parts_are s [] h.machine in
-    let parts : HasSoundParts (atomic s x) table = (let P : Sys → Type 0 = λ t. HasSoundParts t table in subst P (sym same) h.parts) in
-    let machine : IsAtomicMachine (entered entry (atomic s x)) [] = record {
-      parts = record x { cpu = record x.cpu { stage = Rest }; arch = reset entry };
-      objects = rw stage refl;
-      routes = refl;
-      size = h.machine.size;
-      step = resting;
-    } in
-    let kept : HasSoundParts (entered entry (atomic s x)) table = record {
-      numbered = parts.numbered;
-      slots = parts.slots;
-      quick = parts.quick;
-      way = parts.way;
-      owned = parts.owned;
-      tick = parts.tick;
-    } in
-    let Q : Sys → Type 0 = λ t. IsAtomicMachine (entered entry t) [] × HasSoundParts (entered entry t) table in
-    let both = subst Q same (machine, kept) in
-    record { machine = both.0; parts = both.1; numbers = h.numbers; counts = h.counts }
+-- each part that keeps bytes has room for those that RAM has room for
+pub holds : (s : Sys) (table : List Slot) (n k : ℕ) → IsMachineSound s table → n ≤ length (own_ram s.objects) → IfSome (own_bytes (object_at s k)) (λ m. n ≤ length m)
+holds s table n k h l = by (own_bytes (object_at s k)) (bytes_size s table k h.steady) where
+  by : (o : Option (List ℕ)) → IfSome o (λ m. length m ≡ length (own_ram s.objects)) → IfSome o (λ m. n ≤ length m)
+  by None e = e
+  by (Some m) e = omega (arith, e, l)
 
 -- bytes that fill RAM are all that it has
 whole_ram : (size : ℕ) (m : List ℕ) → length m ≡ size → with_bytes_at (replicate size 0) 0 m ≡ m
@@ -91,6 +46,7 @@ device_with : List ℕ → Device → Device
 device_with m (Memory old) = Memory m
 device_with m (Uart u) = Uart u
 device_with m (Exit code) = Exit code
+device_with m (Timer t) = Timer t
 
 part_with : List ℕ → ObjState → ObjState
 part_with m (Blank k) = Blank k
@@ -137,66 +93,85 @@ module _ (c : Config) (atomic_mode : c.system_model ≡ false) where
       let P : Bool → Type 0 = λ b. entered entry (start_state (record c { system_model = b }) ram_base m) ≡ start_state (record c { system_model = b }) entry m in
       subst P (sym atomic_mode) refl
 
--- a block more of some bytes was put
-pub block_put : (s0 s s' : Sys) (table : List Slot) (address done : ℕ) (bytes block : List ℕ) → IsSound s0 table → ram_base ≤ address
-    → address - ram_base + length bytes ≤ length (own_ram s0.objects) → done ≤ length bytes → block ≡ take (length block) (drop done bytes)
-    → s ≡ with_raw address (take done bytes) s0 → s' ≡ with_raw (address + done) block s → s' ≡ with_raw address (take (done + length block) bytes) s0
-block_put s0 s s' table address done bytes block h above below l is before after =
-    let few : length block ≤ length (drop done bytes) = omega (arith, ap length is, length-take (length block) (drop done bytes)) in
-    let P : Sys → Type 0 = λ t. s' ≡ with_raw (address + done) block t in
-    let Q : List ℕ → Type 0 = λ b. s' ≡ with_raw (address + done) b (with_raw address (take done bytes) s0) in
-    subst Q is (subst P before after) ∙ raw_more s0 table address done (length block) bytes h above below l few
+-- the part at a place, which is still the one that it was, has room for what RAM has room for
+pub room_still : {X : Type 0} (f : X → ObjState) (s : Sys) (table : List Slot) (xs : List X) (i : ℕ) (b : X) (n : ℕ) → IsMachineSound s table → n ≤ length (own_ram s.objects)
+    → i < length xs → b ≡ get_or xs i b → drop i (map f xs) ≡ drop i s.objects → IfSome (own_bytes (f b)) (λ m. n ≤ length m)
+room_still f s table xs i b n h l here is rest =
+    subst (λ o. IfSome (own_bytes o) (λ m. n ≤ length m)) (untouched f (λ o. record { state = o; changes = [] }) s.objects xs i b b here is rest) (holds s table n i h l)
 
--- the pieces up to a place were put
-abbrev pub ArePut : Sys → List Piece → ℕ → Sys → Type 0
-ArePut s0 pieces i s = (c : Config) → IsAsBuilt c s0 → All (LiesInRam c.system_ram) pieces → s ≡ start_state c ram_base (fold with_piece (replicate c.system_ram 0) (take i pieces))
+-- the blocks so far were put
+abbrev pub ArePut : Sys → Loading → Sys → Type 0
+ArePut s0 l s = (c : Config) → IsAsBuilt c s0 → All (LiesInRam c.system_ram) l.pieces → s ≡ start_state c ram_base (ram_so_far l c.system_ram)
 
--- and so was the next
-pub piece_put : (s0 s s' : Sys) (pieces : List Piece) (i : ℕ) (p : Piece) → i < length pieces → p ≡ get_or pieces i p → ArePut s0 pieces i s
-    → s' ≡ with_raw p.addr (bytes_of_piece p) s → ArePut s0 pieces (i + 1) s'
-piece_put s0 s s' pieces i p l is before after = λ c built fits.
-    let zeros : List ℕ = replicate c.system_ram 0 in
-    let m : List ℕ = fold with_piece zeros (take i pieces) in
-    let size : length m ≡ c.system_ram = length-loaded c.system_ram zeros (take i pieces) (length-replicate c.system_ram (let z : ℕ = 0 in z)) (All-take (LiesInRam c.system_ram) i pieces fits) in
-    let here : LiesInRam c.system_ram p = subst (LiesInRam c.system_ram) (sym is) (All-get_or (LiesInRam c.system_ram) pieces i p l fits) in
-    let within : p.addr - ram_base + length (bytes_of_piece p) ≤ length m = omega (arith, here.above, here.below, length-bytes_of_piece p, size) in
-    let all : fold with_piece zeros (take (i + 1) pieces) ≡ with_piece m p = fold_more with_piece zeros pieces i p l ∙ ap (λ q. with_piece m q) (sym is) in
-    let P : Sys → Type 0 = λ t. s' ≡ with_raw p.addr (bytes_of_piece p) t in
-    subst P (before c built fits) after ∙ (start_put c built.mode m p.addr (bytes_of_piece p) size within ∙ ap (start_state c ram_base) (sym all))
+-- none yet
+pub none_put : (s0 : Sys) (l : Loading) → ((ram : ℕ) → ram_so_far l ram ≡ zeroed ram) → ArePut s0 l s0
+none_put s0 l clear = λ c built fits.
+    built.start ∙ (start_zeros c built.mode ∙ ap (start_state c ram_base) (sym (zeroed_is c.system_ram) ∙ sym (clear c.system_ram)))
 
--- a piece of a list that lies in RAM has its place in the machine's RAM, which is no larger than RAM may be
-pub piece_fits : (s0 s : Sys) (pieces : List Piece) (i : ℕ) (p : Piece) → i < length pieces → p ≡ get_or pieces i p → ArePut s0 pieces i s
-    → (c : Config) × IsAsBuilt c s0 × All (LiesInRam c.system_ram) pieces → LiesInRam (length (own_ram s.objects)) p × (length (own_ram s.objects) ≤ 16777216)
-piece_fits s0 s pieces i p l is before f =
+-- what is loaded lies in the largest RAM
+larger : (n m : ℕ) (ps : List Piece) → n ≤ m → All (LiesInRam n) ps → All (LiesInRam m) ps
+larger n m ps l h k d here = let q = h k d here in record { above = q.above; below = omega (arith, q.below, l) }
+
+pub fits_largest : (s0 : Sys) (ps : List Piece) → (c : Config) × IsAsBuilt c s0 × All (LiesInRam c.system_ram) ps → All (LiesInRam 16777216) ps
+fits_largest s0 ps f = larger f.0.system_ram 16777216 ps f.1.valid.ram_most f.2
+
+-- a block more
+module _ (s0 s : Sys) (old new : Loading) (address : ℕ) (block : List ℕ) (ps : List Piece) (same : old.pieces ≡ ps) (before : ArePut s0 old s)
+    (puts : (ram : ℕ) → All (LiesInRam ram) old.pieces → PutsBlock ram address block old new) where
+  pub block_put : (s' : Sys) → new.pieces ≡ old.pieces → s' ≡ with_raw address block s → ArePut s0 new s'
+  block_put s' kept after = λ c built fits.
+      let inside : All (LiesInRam c.system_ram) old.pieces = subst (All (LiesInRam c.system_ram)) kept fits in
+      let p = puts c.system_ram inside in
+      let m : List ℕ = ram_so_far old c.system_ram in
+      let within : address - ram_base + length block ≤ length m = omega (arith, p.above, p.below, p.size) in
+      let P : Sys → Type 0 = λ t. s' ≡ with_raw address block t in
+      subst P (before c built inside) after ∙ (start_put c built.mode m address block p.size within ∙ ap (start_state c ram_base) (sym p.put))
+
+  -- it has its place in RAM
+  module _ (f : (c : Config) × IsAsBuilt c s0 × All (LiesInRam c.system_ram) ps) where
+    of_this : PutsBlock f.0.system_ram address block old new
+    of_this = puts f.0.system_ram (subst (All (LiesInRam f.0.system_ram)) (sym same) f.2)
+
+    pub block_above : ram_base ≤ address
+    block_above = of_this.above
+
+    pub block_most : address - ram_base + length block ≤ length (own_ram s.objects)
+    block_most =
+        let whole : length (own_ram s.objects) ≡ f.0.system_ram =
+        ap (λ t. length (own_ram t.objects)) (before f.0 f.1 (subst (All (LiesInRam f.0.system_ram)) (sym same) f.2)) ∙ start_size f.0 f.1.mode (ram_so_far old f.0.system_ram) of_this.size in
+        omega (arith, whole, of_this.above, of_this.below)
+
+-- all blocks were put, and the hart is at its entry
+pub image_put : (s0 s s' : Sys) (image : Image) (l : Loading) → l.pieces ≡ image.pieces → ArePut s0 l s
+    → ((ram : ℕ) → All (LiesInRam ram) l.pieces → ram_so_far l ram ≡ fold with_piece (zeroed ram) l.pieces) → s' ≡ entered image.entry s
+    → (c : Config) → IsAsBuilt c s0 → All (LiesInRam c.system_ram) image.pieces → s' ≡ start_state c image.entry (ram_of image c.system_ram)
+image_put s0 s s' image l same before end after = λ c built fits.
+    let inside : All (LiesInRam c.system_ram) l.pieces = subst (All (LiesInRam c.system_ram)) (sym same) fits in
+    let all : ram_so_far l c.system_ram ≡ ram_of image c.system_ram =
+    end c.system_ram inside ∙ (ap (λ ps. fold with_piece (zeroed c.system_ram) ps) same ∙ image_loaded image c.system_ram) in
+    let Q : Sys → Type 0 = λ t. s' ≡ entered image.entry t in
+    subst Q (before c built inside ∙ ap (start_state c ram_base) all) after ∙ start_entered c built.mode (ram_of image c.system_ram) image.entry
+
+-- and it stays sound
+pub loaded_sound : (s0 s s' : Sys) (table table' : List Slot) (image : Image) (l : Loading) → l.pieces ≡ image.pieces → ArePut s0 l s
+    → ((c : Config) → IsAsBuilt c s0 → All (LiesInRam c.system_ram) image.pieces → s' ≡ start_state c image.entry (ram_of image c.system_ram))
+    → IsMachineSound s table → table' ≡ table → (c : Config) × IsAsBuilt c s0 × All (LiesInRam c.system_ram) image.pieces → IsMachineSound s' table'
+loaded_sound s0 s s' table table' image l same before done h t f =
     let c : Config = f.0 in
     let zeros : List ℕ = replicate c.system_ram 0 in
-    let m : List ℕ = fold with_piece zeros (take i pieces) in
-    let size : length m ≡ c.system_ram = length-loaded c.system_ram zeros (take i pieces) (length-replicate c.system_ram (let z : ℕ = 0 in z)) (All-take (LiesInRam c.system_ram) i pieces f.2) in
-    let here : LiesInRam c.system_ram p = subst (LiesInRam c.system_ram) (sym is) (All-get_or (LiesInRam c.system_ram) pieces i p l f.2) in
-    let whole : length (own_ram s.objects) ≡ c.system_ram = ap (λ t. length (own_ram t.objects)) (before c f.1 f.2) ∙ start_size c f.1.mode m size in
-    (record { above = here.above; below = omega (arith, here.below, whole) }, omega (arith, whole, f.1.valid.ram_most))
-
--- all pieces were put, and the hart is at its entry
-pub image_put : (s0 s s' : Sys) (image : Image) (i : ℕ) → length image.pieces ≤ i → ArePut s0 image.pieces i s → s' ≡ entered image.entry s
-    → (c : Config) → IsAsBuilt c s0 → All (LiesInRam c.system_ram) image.pieces → s' ≡ start_state c image.entry (ram_of image c.system_ram)
-image_put s0 s s' image i l before after = λ c built fits.
-    let zeros : List ℕ = replicate c.system_ram 0 in
-    let P : List Piece → Type 0 = λ ps. s ≡ start_state c ram_base (fold with_piece zeros ps) in
-    let Q : Sys → Type 0 = λ t. s' ≡ entered image.entry t in
-    subst Q (subst P (take_all i image.pieces l) (before c built fits)) after ∙ start_entered c built.mode (ram_of image c.system_ram) image.entry
-
--- where the hart was reset in a sound machine, it is one
-pub entered_kept : (s s' : Sys) (table table' : List Slot) (entry : ℕ) → IsSound s table → s' ≡ entered entry s → table' ≡ table → IsSound s' table'
-entered_kept s s' table table' entry h e t =
-    let P : Sys → Type 0 = λ x. IsSound x table' in
-    let Q : List Slot → Type 0 = λ x. IsSound (entered entry s) x in
-    subst P (sym e) (subst Q (sym t) (entered_sound s table entry h))
+    let all : length (ram_of image c.system_ram) ≡ c.system_ram = length-loaded c.system_ram zeros image.pieces (length-replicate c.system_ram (let z : ℕ = 0 in z)) f.2 in
+    let P : Sys → Type 0 = λ x. IsMachineSound x table in
+    let Q : Sys → Type 0 = λ x. IsMachineSound x table' in
+    let R : List Slot → Type 0 = λ x. IsMachineSound (start_state c image.entry (ram_of image c.system_ram)) x in
+    subst Q (sym (done c f.1 f.2)) (subst R (sym t)
+    (rebuilt_sound c ram_base image.entry (ram_so_far l c.system_ram) (ram_of image c.system_ram) table f.1.valid f.1.mode (omega (arith, all))
+    (subst P (before c f.1 (subst (All (LiesInRam c.system_ram)) (sym same) f.2)) h)))
 
 -- a machine that is being loaded is drained
-pub loading_drained : (s0 s : Sys) (pieces : List Piece) (i : ℕ) → ArePut s0 pieces i s → (c : Config) × IsAsBuilt c s0 × All (LiesInRam c.system_ram) pieces → IsDrained s
-loading_drained s0 s pieces i before f =
-    let P : Sys → Type 0 = IsDrained in
-    subst P (sym (before f.0 f.1 f.2)) (start_settled f.0 ram_base (fold with_piece (replicate f.0.system_ram 0) (take i pieces)) f.1.mode).drained
+pub loading_drained : (s0 s : Sys) (l : Loading) (ps : List Piece) → l.pieces ≡ ps → ArePut s0 l s → (c : Config) × IsAsBuilt c s0 × All (LiesInRam c.system_ram) ps → is_settled s ≡ true
+loading_drained s0 s l ps same before f =
+    let P : Sys → Type 0 = λ x. is_settled x ≡ true in
+    subst P (sym (before f.0 f.1 (subst (All (LiesInRam f.0.system_ram)) (sym same) f.2))) (start_settled f.0 ram_base (ram_so_far l f.0.system_ram) f.1.mode).drained
 
 -- and once it is loaded it is settled
 pub loaded_settled : (s0 s : Sys) (image : Image) → ((c : Config) → IsAsBuilt c s0 → All (LiesInRam c.system_ram) image.pieces → s ≡ start_state c image.entry (ram_of image c.system_ram))

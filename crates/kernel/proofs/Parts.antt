@@ -1,31 +1,34 @@
 -- A list of boxed parts, of which one is woken or is passed a packet.
-use Rattle.std.proofs.Common.{arith, ◌≡◌, ℕ, suc, ◌+◌, ◌<◌, ◌≤◌, add-one, Bool, true, false, cond, List, [], ◌∷◌, length, drop, map, get_or, set, refl, sym, ◌∙◌, ap, subst, Option, Some, is_some}
+use Rattle.std.proofs.Common.{arith, ◌≡◌, ℕ, suc, ◌+◌, ◌<◌, ◌≤◌, add-one, Bool, true, false, cond, List, ◌∷◌, length, drop, map, get_or, set, refl, sym, ◌∙◌, ap, subst, Option, Some, is_some}
 use Rattle.std.proofs.Math.Seq.{drop-cons}
 use Rattle.std.proofs.lemmas.List.{get_or-map, length-map, map-set}
 use Rattle.ev_queue.specs.Queue.{Queue}
-use Rattle.gm_model.specs.Counts.{Counts}
-use Rattle.gm_model.specs.Router.{Router}
-use Rattle.gm_model.specs.ObjState.{ObjState, Blank}
+use Rattle.gm_words.specs.Counts.{Counts}
+use Rattle.gm_words.specs.Platform.{End}
+use Rattle.gm_words.specs.Router.{Router}
+use Rattle.gm_model.specs.ObjState.{ObjState, Blank, object_of}
 use Rattle.gm_model.specs.ObjectStep.{object_step, atomic_step}
 use Rattle.gm_model.specs.Command.{arch_of}
-use Rattle.gm_model.specs.Sound.{latency_of}
 use Rattle.gm_model.specs.Sys.{Sys, active_from, active_cpu, pass_at}
-use Rattle.gm_model.specs.Deliver.{Delivery, deliver_wake, deliver_atomic, way_latency}
-use Rattle.gm_model.specs.declared.kind.Kind.TheVariants as kinds
-use Rattle.gm_model.specs.declared.packet.Packet.{Packet}
-use Rattle.gm_model.specs.declared.wake.Wake.{Wake}
-use Rattle.gm_model.specs.declared.way.Way.{Way}
-use Rattle.gm_model.proofs.SoundParts.{latency-way}
+use Rattle.gm_model.specs.Deliver.{Delivery, deliver_wake, deliver_passed, done_at, deliver_atomic, way_latency}
+use Rattle.gm_words.specs.declared.answer.Answer.{Answer}
+use Rattle.gm_words.specs.declared.kind.Kind.TheVariants as kinds
+use Rattle.gm_words.specs.declared.packet.Packet.{Packet}
+use Rattle.gm_words.specs.declared.wake.Wake.{Wake}
+use Rattle.gm_words.specs.declared.way.Way.{Way}
 use Rattle.obj_core.specs.Events.{with_changes}
 use Rattle.obj_core.specs.Out.{Out, extended}
 use Rattle.rv_step.specs.declared.arch.Arch.{Arch}
-use Rattle.kernel.specs.Ready.{passed_to, answered}
 
 module _ {X : Type 0} (f : X → ObjState) (xs : List X) (i : ℕ) (b : X) (here : i < length xs) (is : b ≡ get_or xs i b)
-    (tick rebased : ℕ) (counts : Counts) (draining : Bool) (router : Router) where
+    (number : object_of (get_or (map f xs) i (Blank kinds.AtomicCpu)) ≡ i)
+    (tick rebased : ℕ) (counts : Counts) (draining : Bool) (wires : List (List End)) (router : Router) where
   -- what the list shows at the part's place
   pub shown_at : get_or (map f xs) i (Blank kinds.AtomicCpu) ≡ f b
   shown_at = get_or-map f xs i b (Blank kinds.AtomicCpu) here ∙ sym (ap f is)
+
+  number_is : object_of (f b) ≡ i
+  number_is = ap object_of (sym shown_at) ∙ number
 
   -- the machine with these parts
   abbrev pub sys_with : List X → Queue → ℕ → Sys
@@ -38,6 +41,7 @@ module _ {X : Type 0} (f : X → ObjState) (xs : List X) (i : ℕ) (b : X) (here
     rebased = rebased;
     trace = false;
     draining = draining;
+    wires = wires;
     router = router;
   }
 
@@ -50,7 +54,12 @@ module _ {X : Type 0} (f : X → ObjState) (xs : List X) (i : ℕ) (b : X) (here
       → (let d : Delivery = record { sys = sys_with (set xs i b') q' after.next; items = after.items; entries = after.entries } in d)
       ≡ deliver_wake (record { sys = sys_with xs q before.next; items = before.items; entries = before.entries }) i w
   woken_shown w before called after q q' b' c s e o =
-      rw (map-set f xs i b', shown_at, s, e, o, c) refl
+      rw (map-set f xs i b', shown_at, s, e, o, c, number_is) refl
+
+  -- and it answered as its rule says
+  pub answer_shown : (w : Wake) (before called : Out) (r : Answer) → called ≡ record before { sender = i } → r ≡ (object_step (f b) called.next w tick).answer
+      → r ≡ (object_step (get_or (map f xs) i (Blank kinds.AtomicCpu)) before.next w tick).answer
+  answer_shown w before called r c e = rw (shown_at, e, c) refl
 
   -- a packet was passed to the part
   pub passed_shown : (p : Packet) (before called after : Out) (q q' : Queue) (b' : X)
@@ -59,9 +68,9 @@ module _ {X : Type 0} (f : X → ObjState) (xs : List X) (i : ℕ) (b : X) (here
       → q' ≡ with_changes q (f b) (atomic_step (f b) p tick).changes
       → after ≡ extended called (atomic_step (f b) p tick).acts (atomic_step (f b) p tick).entries called.next
       → (let d : Delivery = record { sys = sys_with (set xs i b') q' after.next; items = after.items; entries = after.entries } in d)
-      ≡ passed_to (record { sys = sys_with xs q before.next; items = before.items; entries = before.entries }) i p
+      ≡ deliver_passed (record { sys = sys_with xs q before.next; items = before.items; entries = before.entries }) i p
   passed_shown p before called after q q' b' c s e o =
-      rw (map-set f xs i b', shown_at, s, e, o, c) refl
+      rw (map-set f xs i b', shown_at, s, e, o, c, number_is) refl
 
 -- the active CPU is the part at a place, or stands behind it
 module _ {X : Type 0} (f : X → ObjState) (xs : List X) (i : ℕ) (b : X) (r : Option Arch) (t : Bool) (here : i < length xs) (is : b ≡ get_or xs i b)
@@ -88,13 +97,13 @@ module _ {X : Type 0} (f : X → ObjState) (xs : List X) (i : ℕ) (b : X) (r : 
 
 -- a part takes no longer than a latency may be
 pub quick_passed : {X : Type 0} (f : X → ObjState) (xs : List X) (i : ℕ) (b : X) (p : Packet) (now r : ℕ) (way : Way) → i < length xs → b ≡ get_or xs i b
-    → r ≡ way_latency way → way ≡ (atomic_step (f b) p now).way → latency_of (get_or (map f xs) i (Blank kinds.AtomicCpu)) ≤ 1000000 → r ≤ 1000000
+    → r ≡ way_latency way → way ≡ (atomic_step (f b) p now).way → way_latency (atomic_step (get_or (map f xs) i (Blank kinds.AtomicCpu)) p now).way ≤ 1000000 → r ≤ 1000000
 quick_passed f xs i b p now r way here is e w l =
     let same : get_or (map f xs) i (Blank kinds.AtomicCpu) ≡ f b = get_or-map f xs i b (Blank kinds.AtomicCpu) here ∙ sym (ap f is) in
-    omega (arith, e, ap way_latency w, latency-way (f b) p now, ap latency_of same, l)
+    omega (arith, e, ap way_latency w, ap (λ o. way_latency (atomic_step o p now).way) same, l)
 
 -- a packet was passed to the object k, and its sender is to be told
-pub passed_answered : (d e : Delivery) (k : ℕ) (o : Option ℕ) (p q : Packet) (way latency sender : ℕ) → e ≡ passed_to d k p
+pub passed_answered : (d e : Delivery) (k : ℕ) (o : Option ℕ) (p q : Packet) (way latency sender : ℕ) → e ≡ deliver_passed d k p
     → q ≡ (pass_at d.sys k p).packet → latency ≡ way_latency (pass_at d.sys k p).way → way ≡ d.sys.router.latency → Some k ≡ o
-    → answered e sender q (way + latency) ≡ deliver_atomic d sender p o
+    → done_at e sender q (way + latency) ≡ deliver_atomic d sender p o
 passed_answered d e k o p q way latency sender h f l w r = rw (← r, h, f, l, w) refl

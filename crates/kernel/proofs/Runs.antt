@@ -8,25 +8,26 @@ use Rattle.ev_queue.specs.PendingList.{first, rest}
 use Rattle.gc_outside.specs.Told.{Told}
 use Rattle.gc_outside.specs.Sink.{Appends, AppendsFront}
 use Rattle.gc_outside.proofs.Outputs.{told_appends, told_appends_front, told_appends_nothing}
-use Rattle.gm_model.specs.Counts.{Counts, count_access, count_entry, count_entries}
+use Rattle.gm_words.specs.Counts.{Counts, count_access, count_entry, count_entries}
 use Rattle.gm_model.specs.Sys.{Sys}
 use Rattle.gm_model.specs.Deliver.{Delivery}
 use Rattle.gm_model.specs.Fire.{Ran, fire, fire_first, fire_due, fire_event, timed_run, taken_out, without_nth, event_begun, event_delivered, counted}
-use Rattle.gm_model.specs.Run.{RunEnd, EndsRun, run_to, reason_at, reason_for, exit_reason, due_reason, late_reason, has_retired, is_late, exit_of, retired_in, console_of, last_tick}
-use Rattle.gm_model.specs.AtomicMachine.{IsRunReplayed}
-use Rattle.gm_model.specs.Sound.{IsSound}
-use Rattle.gm_model.specs.declared.entry.Entry.{Entry}
-use Rattle.gm_model.specs.declared.entry.Entry.TheVariants as entries
-use Rattle.gm_model.specs.declared.goal.Goal.{Goal}
-use Rattle.gm_model.specs.declared.goal.Reason.{Reason}
-use Rattle.gm_model.specs.declared.goal.Reason.TheVariants as reasons
-use Rattle.gm_model.proofs.ConsoleBytes.{console-append}
+use Rattle.gm_model.specs.Run.{RunEnd, EndsRun, run_to, reason_at, reason_for, exit_reason, due_reason, late_reason, has_retired, is_late, exit_of, retired_in, last_tick}
+use Rattle.gm_words.specs.Entries.{console_of}
+use Rattle.gm_system.specs.Runs.{IsRunReplayed}
+use Rattle.gm_system.specs.Machine.{IsMachineSound}
+use Rattle.gm_words.specs.declared.entry.Entry.{Entry}
+use Rattle.gm_words.specs.declared.entry.Entry.TheVariants as entries
+use Rattle.gm_words.specs.declared.goal.Goal.{Goal}
+use Rattle.gm_words.specs.declared.goal.Reason.{Reason}
+use Rattle.gm_words.specs.declared.goal.Reason.TheVariants as reasons
 use Rattle.gm_model.proofs.RunEnds.{runs_end, run_is, budget_ends}
-use Rattle.gm_model.proofs.SoundEvents.{same_events}
+use Rattle.gm_words.proofs.CountLaws.{same_events}
 use Rattle.kernel.specs.Ends.{StopsAtByte, TellsEnd, last_noted}
 use Rattle.kernel.specs.Ready.{MayServe, HasEventsLeft, at_tick, without_first}
 use Rattle.kernel.proofs.Deliveries.{deliver_counts}
-use Rattle.kernel.proofs.UnderWay.{may_serve, served_sound, one_byte_most, run_replayed}
+use Rattle.gm_system.proofs.ForKernel.{console_more as console-append, served_sound, small_event, run_replayed}
+use Rattle.kernel.proofs.UnderWay.{may_serve}
 
 first_taken : (es : List Due) → rest es ≡ without_nth es 0
 first_taken [] = refl
@@ -37,7 +38,7 @@ first_at [] e h = cc
 first_at (f ∷ es) e h = h
 
 -- the first event is popped: `b` is the machine without it
-module _ (s b : Sys) (e : Due) (table : List Slot) (h : IsSound s table) (events : HasEventsLeft s) (is : first s.pending ≡ Some e) (l : e.tick ≤ 4611703610613432320)
+module _ (s b : Sys) (e : Due) (table : List Slot) (h : IsMachineSound s table) (events : HasEventsLeft s) (is : first s.pending ≡ Some e) (l : e.tick ≤ 4611703610613432320)
     (popped : b ≡ without_first s) where
   taken : at_tick e.tick b ≡ taken_out s 0 e.tick
   taken = rw (popped, first_taken s.pending) refl
@@ -57,7 +58,7 @@ module _ (s b : Sys) (e : Due) (table : List Slot) (h : IsSound s table) (events
 
   pub byte_few : (es : List Entry) → es ≡ (event_delivered (at_tick e.tick b) e).entries → length (console_of es) ≤ 1
   byte_few es t =
-      let few = one_byte_most s table 0 e.tick h in
+      let few = small_event s table 0 e.tick h.steady in
       let same : es ≡ (fire s 0 e.tick).entries = t ∙ ap (λ r. r.entries) (sym fired_is ∙ fired_once) in
       rw same few
 
@@ -67,18 +68,18 @@ module _ (s b : Sys) (e : Due) (table : List Slot) (h : IsSound s table) (events
   pub fired_entries : (es : List Entry) → es ≡ (event_delivered (at_tick e.tick b) e).entries → es ≡ (fire_first s).entries
   fired_entries es t = t ∙ ap (λ r. r.entries) (sym fired_is)
 
-  pub fired_sound : (s' : Sys) (table' : List Slot) → s' ≡ (counted (event_delivered (at_tick e.tick b) e)).sys → table' ≡ table → IsSound s' table'
+  pub fired_sound : (s' : Sys) (table' : List Slot) → s' ≡ (counted (event_delivered (at_tick e.tick b) e)).sys → table' ≡ table → IsMachineSound s' table'
   fired_sound s' table' t u = rw (fired_sys s' t, fired_once, u) (served_sound s table 0 e.tick h l)
 
 -- the first event is replayed, if there is one
-pub first_replayed : (s : Sys) (table : List Slot) → IsSound s table → IsRunReplayed s (fire_first s)
+pub first_replayed : (s : Sys) (table : List Slot) → IsMachineSound s table → IsRunReplayed s (fire_first s)
 unfolding timed_run
-first_replayed s table h = let r = run_replayed s table 1 h in record { machine = r.machine; replays = r.replays }
+first_replayed s table h = let r = run_replayed s table 1 h.steady in record { wiring = r.wiring; replays = r.replays }
 
-pub run_to_replayed : (s : Sys) (table : List Slot) (g : Goal) → IsSound s table → IsRunReplayed s (run_to s g).ran
+pub run_to_replayed : (s : Sys) (table : List Slot) (g : Goal) → IsMachineSound s table → IsRunReplayed s (run_to s g).ran
 run_to_replayed s table g h =
     let e = runs_end.run s g in
-    let P : Ran → Type 0 = λ r. IsRunReplayed s r in subst P (sym e.ran) (run_replayed s table (run_to s g).events h)
+    let P : Ran → Type 0 = λ r. IsRunReplayed s r in subst P (sym e.ran) (run_replayed s table (run_to s g).events h.steady)
 
 -- the first event isn't too late
 pub first_early : (es : List Due) (e : Due) → first es ≡ Some e → IfSome (first es) (λ d. d.tick ≤ 4611703610613432320) → e.tick ≤ 4611703610613432320
@@ -104,7 +105,7 @@ goes_due g n None h = cc
 goes_due g n (Some e) h = record { some = refl; tick = late g n e h }
 
 pub goes_on : (g : Goal) (n insts : ℕ) (s : Sys) → reason_for g n insts s ≡ None → GoesOn (first s.pending)
-goes_on g n insts s h = by_exit (exit_of s.objects) h where
+goes_on g n insts s h = by_exit (exit_of s) h where
   by_insts : (b : Bool) → cond b (Some reasons.Insts) (due_reason g n (first s.pending)) ≡ None → GoesOn (first s.pending)
   by_insts true k = cc
   by_insts false k = goes_due g n (first s.pending) k
@@ -276,10 +277,10 @@ pub stopped_bytes : (start : Sys) (g : Goal) (s : Sys) (es : List Entry) (a c : 
 stopped_bytes start g s es a c h = wrote_front start (timed_run start h.before).sys h.before refl a h.taken c h.took h.refused
 
 -- a run that goes on serves an event
-module _ (s : Sys) (table : List Slot) (h : IsSound s table) (g : Goal) (n insts : ℕ) (none : ◌≡◌ {A = Option Reason} None (reason_for g n insts s)) where
+module _ (s : Sys) (table : List Slot) (h : IsMachineSound s table) (g : Goal) (n insts : ℕ) (none : ◌≡◌ {A = Option Reason} None (reason_for g n insts s)) where
   pub events_running : (s' : Sys) → s' ≡ (fire_first s).sys → s'.counts.events ≡ s.counts.events + 1
   events_running s' e = ap (λ x. x.counts.events) e ∙ events_more s (goes_on g n insts s (sym none)).some
 
 -- the budget is served
-pub budget_out : (s : Sys) (table : List Slot) (h : IsSound s table) (g : Goal) (insts : ℕ) → ◌≡◌ {A = Option Reason} None (reason_for g g.budget insts s) → ⊥
+pub budget_out : (s : Sys) (table : List Slot) (h : IsMachineSound s table) (g : Goal) (insts : ℕ) → ◌≡◌ {A = Option Reason} None (reason_for g g.budget insts s) → ⊥
 budget_out s table h g insts e = budget_ends g g.budget insts s (omega arith) (sym e)

@@ -1,17 +1,23 @@
 -- Which parts a machine takes, and when it can't be built. This project's own rule.
-use Rattle.std.specs.Prelude.{◌≡◌, ℕ, ◌==◌, Bool, true, false, not, ◌||◌, is_some, if◌then◌else◌, List, [], ◌∷◌, length, Option, Some, None}
+use Rattle.std.specs.Prelude.{◌≡◌, ℕ, ◌+◌, ◌≤◌, ◌==◌, nat_lt, Bool, true, false, ◌||◌, is_some, if◌then◌else◌, IsTrue, List, [], ◌∷◌, ◌++◌, length, map, Option, Some, None}
+use Rattle.ev_queue.specs.Handle.{Handle}
+use Rattle.ev_queue.specs.SlotTable.{is_free, granted}
 use Rattle.ev_queue.specs.declared.due.Due.{Due}
-use Rattle.gm_model.specs.Counts.{no_counts}
-use Rattle.gm_model.specs.Kind.{kind_of_own}
+use Rattle.ev_queue.specs.declared.slot.Slot.{Slot}
+use Rattle.rv_step.specs.Arch.{reset}
+use Rattle.rv_step.specs.FlatMem.{ram_base}
+use Rattle.gm_words.specs.Counts.{no_counts}
+use Rattle.gm_words.specs.Kind.{kind_of_own}
 use Rattle.gm_model.specs.ObjState.{ObjState, kind_of, IsBlank}
-use Rattle.gm_model.specs.Platform.{platform, slot_classes, device_class}
-use Rattle.gm_model.specs.Router.{router_of}
+use Rattle.gm_words.specs.Platform.{Part, part_classes, platform, wires_of}
+use Rattle.gm_words.specs.Router.{router_of}
+use Rattle.gm_model.specs.Command.{with_arch}
+use Rattle.gm_model.specs.Start.{built_object}
 use Rattle.gm_model.specs.Sys.{Sys}
-use Rattle.gm_model.specs.declared.params.Params.{Params}
 use Rattle.cfg_tree.specs.declared.config.CacheConfig.{CacheConfig}
 use Rattle.cfg_tree.specs.declared.config.Config.{Config}
-use Rattle.gm_model.specs.declared.kind.Kind.{Kind}
-use Rattle.gm_model.specs.declared.kind.Kind.TheVariants as kinds
+use Rattle.gm_words.specs.declared.kind.Kind.{Kind}
+use Rattle.gm_words.specs.declared.kind.Kind.TheVariants as kinds
 use Rattle.kernel.specs.declared.build_fault.BuildFault.{BuildFault}
 use Rattle.kernel.specs.declared.build_fault.BuildFault.TheVariants as faults
 
@@ -27,10 +33,14 @@ rank_of kinds.Timer = 6
 rank_of kinds.Exit = 7
 rank_of kinds.Dma = 8
 
--- a part of the kind is there
-abbrev pub has : Kind → List ObjState → Bool
-has k [] = false
-has k (s ∷ ss) = (rank_of (kind_of s) == rank_of k) || has k ss
+-- how many of the parts are of a kind, and how many rows of the platform
+abbrev pub parts_of : Kind → List ObjState → ℕ
+parts_of k [] = 0
+parts_of k (s ∷ ss) = (if rank_of (kind_of s) == rank_of k then 1 else 0) + parts_of k ss
+
+abbrev pub rows_of : Kind → List Part → ℕ
+rows_of k [] = 0
+rows_of k (p ∷ ps) = (if rank_of (kind_of_own p.own) == rank_of k then 1 else 0) + rows_of k ps
 
 -- each part is blank
 abbrev pub AreBlank : List ObjState → Type 0
@@ -42,17 +52,16 @@ abbrev pub some_cache : List CacheConfig → Bool
 some_cache [] = false
 some_cache (c ∷ cs) = true
 
--- there are too few parts of the kind: of each kind that is built one is needed, and one that isn't built yet can't be had
+-- the configuration asks for a part of a kind that isn't built yet
+abbrev pub asks_more : Config → Kind → Bool
+asks_more c kinds.TimingCpu = c.system_model
+asks_more c kinds.Cache = some_cache c.caches
+asks_more c kinds.Dma = is_some c.dma
+asks_more c _ = false
+
+-- there are fewer parts of the kind than the platform has rows of it; one that isn't built yet can't be had
 abbrev pub is_lacking : Config → List ObjState → Kind → Bool
-is_lacking c ss kinds.AtomicCpu = not (has kinds.AtomicCpu ss)
-is_lacking c ss kinds.TimingCpu = c.system_model
-is_lacking c ss kinds.Xbar = false
-is_lacking c ss kinds.Cache = some_cache c.caches
-is_lacking c ss kinds.Mem = not (has kinds.Mem ss)
-is_lacking c ss kinds.Uart = not (has kinds.Uart ss)
-is_lacking c ss kinds.Timer = false
-is_lacking c ss kinds.Exit = not (has kinds.Exit ss)
-is_lacking c ss kinds.Dma = is_some c.dma
+is_lacking c ss k = asks_more c k || nat_lt (parts_of k ss) (rows_of k (platform c))
 
 -- the kinds in the order in which a missing one is told
 abbrev pub all_kinds : List Kind
@@ -77,12 +86,46 @@ pub record IsPart (k : Kind) (s : ObjState) : Type 0 where
   pub kind : kind_of s ≡ k
   pub blank : IsBlank s
 
--- the slots of its kind are one of a device, or two
-abbrev pub HasOneDeviceSlot : Params → Type 0
-HasOneDeviceSlot p = slot_classes (kind_of_own p.own) ≡ device_class ∷ []
+-- for each row of the platform, in order, a blank part of its kind
+abbrev pub AreDrawn : List ObjState → List Part → Type 0
+AreDrawn [] [] = Unit {0}
+AreDrawn (s ∷ ss) (p ∷ ps) = IsPart (kind_of_own p.own) s × AreDrawn ss ps
+AreDrawn _ _ = ⊥
 
-abbrev pub HasTwoDeviceSlots : Params → Type 0
-HasTwoDeviceSlots p = slot_classes (kind_of_own p.own) ≡ device_class ∷ device_class ∷ []
+-- of each kind there are as many parts as rows at least
+abbrev pub AreEnough : List ObjState → List Part → Type 0
+AreEnough ss ps = (k : Kind) → rows_of k ps ≤ parts_of k ss
+
+-- so many slots has each row's part
+abbrev pub slot_counts : List Part → List ℕ
+slot_counts ps = map (λ p. length (part_classes p)) ps
+
+-- a part's slots are free, and stay so until each one's handle is given with its class
+abbrev pub AreFree : List Slot → ℕ → ℕ → List ℕ → Type 0
+AreFree table object slot [] = Unit {0}
+AreFree table object slot (c ∷ cs) = IsTrue (is_free table object slot) × AreFree (granted table object slot c) object (slot + 1) cs
+
+-- handles are kept of this class
+abbrev pub is_kept : ℕ → Bool
+is_kept c = (c == 0) || (c == 10) || (c == 30) || (c == 50)
+
+-- the handles of a class once the handle of a slot, of class c, is there too
+abbrev pub added : ℕ → ℕ → ℕ → ℕ → List Handle → List Handle
+added object slot c class hs = if c == class then hs ++ record { owner = object; slot = slot } ∷ [] else hs
+
+-- the table once all of a part's handles are given
+abbrev pub all_granted : List Slot → ℕ → ℕ → List ℕ → List Slot
+all_granted table object slot [] = table
+all_granted table object slot (c ∷ cs) = all_granted (granted table object slot c) object (slot + 1) cs
+
+-- a part that was configured, with the hart at RAM's first byte where it has one
+abbrev pub configured : Config → ℕ → Part → ObjState
+configured c i p = with_arch (Some (reset ram_base)) (built_object c i p)
+
+-- the parts from a number on
+abbrev pub all_configured : Config → ℕ → List Part → List ObjState
+all_configured c i [] = []
+all_configured c i (p ∷ ps) = configured c i p ∷ all_configured c (i + 1) ps
 
 -- a machine of these objects that stands at tick 0, draining, with these events pending
 abbrev pub standing : Config → List Due → List ObjState → Sys
@@ -95,5 +138,6 @@ standing c pending objects = record {
   rebased = 0;
   trace = false;
   draining = true;
+  wires = wires_of (platform c);
   router = router_of c;
 }

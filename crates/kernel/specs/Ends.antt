@@ -4,10 +4,11 @@ use Rattle.gc_outside.specs.Faults.{Rose}
 use Rattle.gc_outside.specs.Told.{Told}
 use Rattle.gc_outside.specs.Sink.{Appends, AppendsFront}
 use Rattle.gm_model.specs.Fire.{timed_run, fire_first}
-use Rattle.gm_model.specs.Run.{RunEnd, run_to, retired_in, console_of}
+use Rattle.gm_model.specs.Run.{RunEnd, run_to, retired_in}
+use Rattle.gm_words.specs.Entries.{console_of}
 use Rattle.gm_model.specs.Sys.{Sys}
-use Rattle.gm_model.specs.declared.entry.Entry.{Entry}
-use Rattle.gm_model.specs.declared.goal.Goal.{Goal}
+use Rattle.gm_words.specs.declared.entry.Entry.{Entry}
+use Rattle.gm_words.specs.declared.goal.Goal.{Goal}
 use Rattle.kernel.specs.declared.run_end.RunEnd.{RunEnd as ToldEnd}
 use Rattle.kernel.specs.declared.run_end.RunFault.{RunFault}
 use Rattle.kernel.specs.declared.run_end.RunFault.TheVariants as faults

@@ -1,18 +1,20 @@
 -- What one wake, or one packet that is passed on, needs in the middle of an event, and what an event's items need.
-use Rattle.std.specs.Prelude.{◌≡◌, ℕ, ◌+◌, ◌*◌, ◌^◌, ◌<◌, ◌≤◌, List, [], ◌∷◌, ◌++◌, length, IfSome}
+use Rattle.std.specs.Prelude.{◌≡◌, ℕ, ◌+◌, ◌*◌, ◌^◌, ◌<◌, ◌≤◌, List, [], length, IfSome}
 use Rattle.gc_base.specs.declared.limits.TheConstants.{LATENCY_MAX, TOP}
-use Rattle.ev_queue.specs.declared.slot.Slot.{Slot}
-use Rattle.gm_model.specs.Allowed.{MayWake, MayPass}
-use Rattle.gm_model.specs.Deliver.{Done, Delivery, deliver, sent_by}
 use Rattle.ev_queue.specs.PendingList.{rest}
 use Rattle.ev_queue.specs.declared.due.Due.{Due}
+use Rattle.ev_queue.specs.declared.slot.Slot.{Slot}
+use Rattle.gm_words.specs.Allowed.{MayCome, MayPass}
+use Rattle.gm_words.specs.Platform.{End}
+use Rattle.gm_words.specs.Router.{destination}
+use Rattle.gm_words.specs.declared.packet.Packet.{Packet}
+use Rattle.gm_words.specs.declared.wake.Wake.{Wake}
+use Rattle.gm_words.specs.declared.wake.Wake.TheVariants as wakes
+use Rattle.gm_model.specs.Deliver.{Delivery, deliver, deliver_wake, told_wake, way_latency}
 use Rattle.gm_model.specs.Fire.{event_begun}
-use Rattle.gm_model.specs.Router.{destination}
-use Rattle.gm_model.specs.Sound.{latency_of, IsSoundWithin}
-use Rattle.gm_model.specs.Sys.{Sys, object_at, passed, pass_at}
-use Rattle.gm_model.specs.declared.packet.Packet.{Packet}
-use Rattle.gm_model.specs.declared.wake.Wake.{Wake}
-use Rattle.gm_model.specs.declared.wake.Wake.TheVariants as wakes
+use Rattle.gm_model.specs.ObjState.{object_of}
+use Rattle.gm_model.specs.Sys.{Sys, object_at, pass_at, step_at}
+use Rattle.gm_system.specs.Machine.{IsDeliverySound}
 use Rattle.obj_core.specs.Handles.{HasHandles}
 
 -- the object i is there with its handles, and there is room for what it notes and numbers for what it asks for
@@ -26,13 +28,15 @@ pub record IsReady (d : Delivery) (table : List Slot) (i : ℕ) : Type 0 where
 -- and the wake may come to it
 pub record IsReadyForWake (d : Delivery) (table : List Slot) (i : ℕ) (w : Wake) : Type 0 where
   pub ready : IsReady d table i
-  pub wake : MayWake (object_at d.sys i) w
+  pub number : object_of (object_at d.sys i) ≡ i
+  pub wake : MayCome w
 
 -- and the packet may be passed to it
 pub record IsReadyForPacket (d : Delivery) (table : List Slot) (i : ℕ) (p : Packet) : Type 0 where
   pub ready : IsReady d table i
-  pub packet : MayPass (object_at d.sys i) p
-  pub latency : latency_of (object_at d.sys i) ≤ LATENCY_MAX
+  pub number : object_of (object_at d.sys i) ≡ i
+  pub packet : MayPass p
+  pub latency : way_latency (pass_at d.sys i p).way ≤ LATENCY_MAX
 
 -- a packet may be passed on: it is short, its way takes no longer than it may, and the server of its range, if there is
 -- one, is ready for it
@@ -45,17 +49,12 @@ pub record MayGoOn (d : Delivery) (table : List Slot) (p : Packet) : Type 0 wher
 abbrev pub HasItemRoom : Delivery → Type 0
 HasItemRoom d = length d.items + 16 ≤ 272
 
--- a packet was passed to the object i, and its sender isn't told yet
-abbrev pub passed_to : Delivery → ℕ → Packet → Delivery
-passed_to d i p = record {
-  sys = passed d.sys i p;
-  items = d.items ++ sent_by i (pass_at d.sys i p).acts;
-  entries = d.entries ++ (pass_at d.sys i p).entries;
-}
-
--- the sender i is to be told of the packet that it passed on, after all that is to be delivered already
-abbrev pub answered : Delivery → ℕ → Packet → ℕ → Delivery
-answered d i p latency = record d { items = d.items ++ Done i p latency ∷ [] }
+-- the object i may offer a packet at its port: the peer may be shown it, and i then be told of the answer
+pub record MayOffer (d : Delivery) (table : List Slot) (i port : ℕ) (p : Packet) (peer : End) : Type 0 where
+  pub shown : IsReadyForWake d table peer.part (wakes.Offer (record { 0 = peer.port }) p)
+  pub room : HasItemRoom (deliver_wake d peer.part (wakes.Offer (record { 0 = peer.port }) p))
+  pub told : IsReadyForWake (deliver_wake d peer.part (wakes.Offer (record { 0 = peer.port }) p)) table i
+      (told_wake (step_at d.sys peer.part (wakes.Offer (record { 0 = peer.port }) p)).answer port)
 
 -- e is what some items of d lead to that were delivered in order, at least so many of them
 pub record Delivers (least : ℕ) (d e : Delivery) : Type 0 where
@@ -65,11 +64,12 @@ pub record Delivers (least : ℕ) (d e : Delivery) : Type 0 where
 
 -- so few events were served since the counters began that no number of theirs runs out
 abbrev pub HasEventsLeft : Sys → Type 0
-HasEventsLeft s = s.counts.events < 2 ^ 55
+HasEventsLeft s = s.counts.events < 2 ^ 54
 
 -- an event is under way, and each wake that it causes is allowed
 pub record IsUnderWay (d : Delivery) (table : List Slot) : Type 0 where
-  pub sound : IsSoundWithin d table
+  pub sound : IsDeliverySound d table
+  pub tick : d.sys.tick ≤ TOP
   pub events : HasEventsLeft d.sys
 
 -- the machine once its first event is taken out

@@ -1,8 +1,8 @@
 // One boxed part at a time: each call here is that of the part, whichever it is.
 ghost use Rattle.std.specs.Prelude.{◌≡◌, ◌+◌, ◌≤◌, length, take, drop, is_some, OnOk, IfSome, MatchOption};
 ghost use Rattle.gc_base.specs.declared.limits.TheConstants.{TOP};
-ghost use Rattle.gm_model.specs.Allowed.{IsAllowed, MayWake, MayPass};
-ghost use Rattle.gm_model.specs.Kind.{kind_of_own};
+ghost use Rattle.gm_words.specs.Allowed.{IsAllowed, MayCome, MayPass};
+ghost use Rattle.gm_words.specs.Kind.{kind_of_own};
 ghost use Rattle.gm_model.specs.ObjState.{kind_of, IsBlank};
 ghost use Rattle.gm_model.specs.ObjectStep.{object_step, atomic_step};
 ghost use Rattle.gm_model.specs.Command.{start_of, resume_step, arch_of, with_arch, exit_code, own_bytes, with_own_bytes};
@@ -12,7 +12,7 @@ ghost use Rattle.obj_core.specs.Out.{HasRoom, extended};
 
 use ev_queue::EventQueue;
 use gc_base::{NoMemory, Tick};
-use gm_model::{Kind, Packet, Params, Wake, Way};
+use gm_model::{Answer, Kind, Packet, Params, Wake, Way};
 use obj_core::{Handles, Outbox, SimObject};
 use rv_step::Arch;
 use std::alloc::Global;
@@ -44,17 +44,18 @@ pub(crate) fn wake_box(
     now: Tick,
     q: &mut EventQueue,
     out: &mut Outbox,
-)
+) -> Answer
     requires handles { HasHandles q.old.table (state part.old) }
-    requires wake { MayWake (state part.old) w }
+    requires wake { MayCome w }
     requires tick { now ≤ TOP }
     requires room { HasRoom out.old }
     ensures state { state part.new ≡ (object_step (state part.old) out.old.next w now).state }
     ensures events { q.new ≡ with_changes q.old (state part.old) (object_step (state part.old) out.old.next w now).changes }
     ensures out { out.new ≡ extended out.old (object_step (state part.old) out.old.next w now).acts
         (object_step (state part.old) out.old.next w now).entries (object_step (state part.old) out.old.next w now).next }
+    ensures answer { result ≡ (object_step (state part.old) out.old.next w now).answer }
 {
-    let _answer = part.wake(w, now, q, out);
+    part.wake(w, now, q, out)
 }
 
 pub(crate) fn pass_box(
@@ -65,7 +66,7 @@ pub(crate) fn pass_box(
     out: &mut Outbox,
 ) -> Way
     requires handles { HasHandles q.old.table (state part.old) }
-    requires packet { MayPass (state part.old) p.old }
+    requires packet { MayPass p.old }
     requires tick { now ≤ TOP }
     requires room { HasRoom out.old }
     ensures state { state part.new ≡ (atomic_step (state part.old) p.old now).state }
@@ -105,11 +106,12 @@ pub(crate) fn exit_box(part: &Box<dyn SimObject>) -> Option<u32>
     part.exit_code()
 }
 
-pub(crate) fn read_box(part: &Box<dyn SimObject>, at: u64, to: &mut [u8])
+pub(crate) fn read_box(part: &Box<dyn SimObject>, at: u64, to: &mut [u8]) -> bool
     requires within { IfSome (own_bytes (state part.now)) (λ m. at + length to.old ≤ length m) }
-    ensures { MatchOption (own_bytes (state part.now)) (to.new ≡ to.old) (λ m. to.new ≡ take (length to.old) (drop at m)) }
+    ensures keeps { result ≡ is_some (own_bytes (state part.now)) }
+    ensures bytes { MatchOption (own_bytes (state part.now)) (to.new ≡ to.old) (λ m. to.new ≡ take (length to.old) (drop at m)) }
 {
-    part.own_bytes(at, to);
+    part.own_bytes(at, to)
 }
 
 pub(crate) fn write_box(part: &mut Box<dyn SimObject>, at: u64, from: &[u8])

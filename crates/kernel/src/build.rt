@@ -1,26 +1,27 @@
 // How a machine is built: its parts are configured, each with its handles.
-ghost use Rattle.std.specs.Prelude.{◌≡◌, ◌^◌, ◌<◌, [], ◌∷◌, map, IsTrue, Some, None, IfOk, OnOk, IfErr, false};
-ghost use Rattle.ev_queue.specs.SlotTable.{is_free, granted};
+ghost use Rattle.std.specs.Prelude.{◌≡◌, ◌^◌, ◌<◌, [], length, map, true, IsTrue, Some, None, IfOk, OnOk, IfErr, false};
+ghost use Rattle.ev_queue.specs.SlotTable.{is_free, granted, all_slots};
 ghost use Rattle.rv_step.specs.Arch.{reset};
 ghost use Rattle.rv_step.specs.FlatMem.{ram_base};
-ghost use Rattle.gm_model.specs.Allowed.{IsAllowed};
+ghost use Rattle.gm_words.specs.Allowed.{IsAllowed};
 ghost use Rattle.cfg_tree.specs.Valid.{IsValidConfig};
 ghost use Rattle.gm_model.specs.Command.{start_of, with_arch};
-ghost use Rattle.gm_model.specs.Kind.{kind_of_own};
-ghost use Rattle.gm_model.specs.Start.{params_of, start_state, built_object};
-ghost use Rattle.gm_model.specs.declared.kind.Kind.{Kind};
-ghost use Rattle.gm_model.specs.declared.own.Own.{Own};
+ghost use Rattle.gm_words.specs.Kind.{kind_of_own};
+ghost use Rattle.gm_model.specs.Start.{params_of, start_state};
+ghost use Rattle.gm_words.specs.Platform.{platform, slot_classes};
+ghost use Rattle.gm_words.specs.Shown.{part_shown};
+ghost use Rattle.gm_words.specs.Slots.{given_table};
 ghost use Rattle.obj_core.specs.Handles.{AreHandlesOf};
-ghost use Rattle.kernel.specs.Build.{IsPart, AreBlank, lacking, NamesLack, HasOneDeviceSlot, HasTwoDeviceSlots, standing};
+ghost use Rattle.kernel.specs.Build.{IsPart, AreBlank, AreDrawn, AreEnough, AreFree, is_kept, added, all_granted, all_configured, slot_counts, lacking, NamesLack, standing};
 
 use crate::boxes::{configure_box, give_arch_box};
 use crate::build_fault::BuildFault;
+use crate::draw::{draw, first_lacking};
 use crate::machine::Machine;
-use crate::pick::{Picked, pick};
 use crate::router::Router;
 use ev_queue::{EventHandle, EventQueue};
 use gc_base::{NoMemory, ObjId, SlotNo};
-use gm_model::platform::{ATOMIC_CPU, EXIT, MEMORY, RAM_BASE, UART};
+use gm_model::platform::{self, Part, RAM_BASE};
 use gm_model::{Config, Own, Params};
 use obj_core::{Handles, Outbox, SimObject};
 use probe_stats::Counters;
@@ -67,77 +68,120 @@ fn no_handles(alloc: Global) -> Handles
     }
 }
 
-/// Configures the CPU, and gives it the hart, which begins at RAM.
-fn cpu_part(
+/// The handle of a slot more, among those of its class.
+fn add_handle(
+    queue: &mut EventQueue,
+    handles: &mut Handles,
+    object: ObjId,
+    slot: u8,
+    class: u8,
+) -> Result<(), NoMemory>
+    requires free { IsTrue (is_free queue.old.table object.0 slot) }
+    requires kept { is_kept class ≡ true }
+    ensures response { OnOk result (handles.new.response.items ≡ added object.0 slot class 0 handles.old.response.items) }
+    ensures request { OnOk result (handles.new.request.items ≡ added object.0 slot class 10 handles.old.request.items) }
+    ensures devices { OnOk result (handles.new.device.items ≡ added object.0 slot class 30 handles.old.device.items) }
+    ensures cpus { OnOk result (handles.new.cpu.items ≡ added object.0 slot class 50 handles.old.cpu.items) }
+    ensures queue { OnOk result (queue.new ≡ record queue.old { table = granted queue.old.table object.0 slot class }) }
+{
+    match class {
+        0 => handles.response.push(handle(queue, object, slot))?,
+        10 => handles.request.push(handle(queue, object, slot))?,
+        30 => handles.device.push(handle(queue, object, slot))?,
+        50 => handles.cpu.push(handle(queue, object, slot))?,
+        _ => unreachable!(),
+    }
+    Ok(())
+}
+
+/// The handles of all slots of a part.
+fn all_handles(alloc: Global, queue: &mut EventQueue, params: &Params) -> Result<Handles, NoMemory>
+    requires { AreFree queue.old.table params.now.object.0 0 (slot_classes (kind_of_own params.now.own)) }
+    ensures handles { IfOk result (AreHandlesOf params.now) }
+    ensures queue { OnOk result (queue.new ≡ record queue.old {
+      table = all_granted queue.old.table params.now.object.0 0 (slot_classes (kind_of_own params.now.own));
+    }) }
+{
+    let classes = params.own.slots();
+    let mut handles = no_handles(alloc);
+    for slot in 0..classes.len() {
+        add_handle(
+            queue,
+            &mut handles,
+            params.object,
+            slot as u8,
+            classes[slot],
+        )?;
+    }
+    Ok(handles)
+}
+
+/// Configures a part, and gives it the hart, which begins at RAM, where it can have one.
+fn configure_part(
     alloc: Global,
     c: &Config,
-    part: Box<dyn SimObject>,
+    object: ObjId,
+    own: Own,
+    part: &mut Box<dyn SimObject>,
     queue: &mut EventQueue,
-) -> Result<Box<dyn SimObject>, NoMemory>
+) -> Result<(), NoMemory>
     requires valid { IsValidConfig c.now }
-    requires part { IsPart Kind.AtomicCpu (state part) }
-    requires free { IsTrue (is_free queue.old.table 0 0) }
-    ensures part { IfOk result (λ b. state b ≡ with_arch (Some (reset ram_base)) (built_object c.now 0 Kind.AtomicCpu)) }
-    ensures queue { OnOk result (queue.new ≡ record queue.old { table = granted queue.old.table 0 0 50 }) }
+    requires allowed { IsAllowed (params_of c.now object.0 own) }
+    requires part { IsPart (kind_of_own own) (state part.old) }
+    requires free { AreFree queue.old.table object.0 0 (slot_classes (kind_of_own own)) }
+    ensures part { OnOk result (state part.new
+        ≡ with_arch (Some (reset ram_base)) (start_of (params_of c.now object.0 own) own)) }
+    ensures queue { OnOk result (queue.new ≡ record queue.old {
+      table = all_granted queue.old.table object.0 0 (slot_classes (kind_of_own own));
+    }) }
 {
-    let mut part = part;
-    let mut handles = no_handles(alloc);
-    handles.cpu.push(handle(queue, ATOMIC_CPU, 0))?;
-    let own = Own::AtomicCpu {
-        period: c.cpu_period,
-    };
-    configure_box(&mut part, alloc, &params(c, ATOMIC_CPU, own), handles)?;
-    give_arch_box(&mut part, Arch::reset(RAM_BASE));
-    Ok(part)
+    let params = params(c, object, own);
+    let handles = all_handles(alloc, queue, &params)?;
+    configure_box(part, alloc, &params, handles)?;
+    give_arch_box(part, Arch::reset(RAM_BASE));
+    Ok(())
 }
 
-/// Configures a device that has one slot.
-fn device_part(
+/// Configures the parts, each by its row.
+fn configure_parts(
     alloc: Global,
-    params: &Params,
-    part: Box<dyn SimObject>,
+    c: &Config,
+    rows: &[Part],
+    parts: &mut Vec<Box<dyn SimObject>>,
     queue: &mut EventQueue,
-) -> Result<Box<dyn SimObject>, NoMemory>
-    requires allowed { IsAllowed params.now }
-    requires one_slot { HasOneDeviceSlot params.now }
-    requires part { IsPart (kind_of_own params.now.own) (state part) }
-    requires free { IsTrue (is_free queue.old.table params.now.object.0 0) }
-    ensures part { IfOk result (λ b. state b ≡ start_of params.now params.now.own) }
-    ensures queue { OnOk result (queue.new ≡ record queue.old { table = granted queue.old.table params.now.object.0 0 30 }) }
+) -> Result<(), NoMemory>
+    requires valid { IsValidConfig c.now }
+    requires rows { map part_shown rows.now ≡ platform c.now }
+    requires drawn { AreDrawn (map (λ b. state b) parts.old.items) (platform c.now) }
+    requires free { queue.old.table ≡ all_slots 0 (slot_counts (platform c.now)) }
+    ensures parts { OnOk result (map (λ b. state b) parts.new.items ≡ all_configured c.now 0 (platform c.now)) }
+    ensures queue { OnOk result (queue.new ≡ record queue.old { table = given_table 0 (platform c.now) }) }
 {
-    let mut part = part;
-    let mut handles = no_handles(alloc);
-    handles.device.push(handle(queue, params.object, 0))?;
-    configure_box(&mut part, alloc, params, handles)?;
-    Ok(part)
+    for i in 0..rows.len() {
+        configure_part(alloc, c, ObjId(i as u8), rows[i].own, &mut parts[i], queue)?;
+    }
+    Ok(())
 }
 
-/// Configures a device that has two slots.
-fn sender_part(
-    alloc: Global,
-    params: &Params,
-    part: Box<dyn SimObject>,
-    queue: &mut EventQueue,
-) -> Result<Box<dyn SimObject>, NoMemory>
-    requires allowed { IsAllowed params.now }
-    requires two_slots { HasTwoDeviceSlots params.now }
-    requires part { IsPart (kind_of_own params.now.own) (state part) }
-    requires first { IsTrue (is_free queue.old.table params.now.object.0 0) }
-    requires second { IsTrue (is_free (granted queue.old.table params.now.object.0 0 30) params.now.object.0 1) }
-    ensures part { IfOk result (λ b. state b ≡ start_of params.now params.now.own) }
-    ensures queue { OnOk result (queue.new ≡ record queue.old { table = granted (granted queue.old.table params.now.object.0 0 30) params.now.object.0 1 30 }) }
+/// How many slots a part has.
+fn slot_count(own: &Own) -> u8
+    ensures { result ≡ length (slot_classes (kind_of_own own.now)) }
 {
-    let mut part = part;
-    let mut handles = no_handles(alloc);
-    handles.device.push(handle(queue, params.object, 0))?;
-    handles.device.push(handle(queue, params.object, 1))?;
-    configure_box(&mut part, alloc, params, handles)?;
-    Ok(part)
+    own.slots().len() as u8
+}
+
+/// How many slots each row's part has.
+fn counts(alloc: Global, rows: &[Part]) -> Result<Vec<u8>, NoMemory>
+    ensures { IfOk result (λ v. v.items ≡ slot_counts (map part_shown rows.now)) }
+{
+    let mut counts = Vec::new(alloc);
+    for i in 0..rows.len() {
+        counts.push(slot_count(&rows[i].own))?;
+    }
+    Ok(counts)
 }
 
 impl Machine {
-    ghost use Rattle.gm_model.specs.Platform.{platform};
-    ghost use Rattle.gm_model.specs.Sound.{given_table};
     ghost use Rattle.kernel.specs.Settled.{IsSettled};
     ghost use Rattle.kernel.specs.Shown.{sys_of, IsMachine};
 
@@ -156,104 +200,63 @@ impl Machine {
         ensures whole { OnOk result (lacking c.now (map (λ b. state b) bin.items) ≡ None) }
         ensures fault { IfErr result (λ e. NamesLack e c.now (map (λ b. state b) bin.items)) }
     {
-        match pick(c, bin) {
-            Err(kind) => Err(BuildFault::Part { kind }),
-            Ok(picked) => match Machine::assemble(alloc, c, picked) {
-                Err(NoMemory) => Err(BuildFault::NoMemory),
-                Ok(machine) => Ok(machine),
-            },
+        let rows = platform::parts(alloc, c).map_err(|_| BuildFault::NoMemory)?;
+        if let Some(kind) = first_lacking(c, rows.as_slice(), bin.as_slice()) {
+            return Err(BuildFault::Part { kind });
+        }
+        match Machine::assemble(alloc, c, rows, bin) {
+            Err(NoMemory) => Err(BuildFault::NoMemory),
+            Ok(machine) => Ok(machine),
         }
     }
 
-    /// The machine of these parts.
-    fn assemble(alloc: Global, c: &Config, picked: Picked) -> Result<Machine, NoMemory>
+    /// The machine of a platform, whose parts are among these.
+    fn assemble(
+        alloc: Global,
+        c: &Config,
+        rows: Vec<Part>,
+        bin: Vec<Box<dyn SimObject>>,
+    ) -> Result<Machine, NoMemory>
+        requires blank { AreBlank (map (λ b. state b) bin.items) }
         requires valid { IsValidConfig c.now }
-        requires mode { c.now.system_model ≡ false }
-        requires cpu { IsPart Kind.AtomicCpu (state picked.cpu) }
-        requires exit { IsPart Kind.Exit (state picked.exit) }
-        requires memory { IsPart Kind.Mem (state picked.memory) }
-        requires uart { IsPart Kind.Uart (state picked.uart) }
-        ensures built { IfOk result (λ m. sys_of state m ≡ start_state c.now ram_base []) }
+        requires rows { map part_shown rows.items ≡ platform c.now }
+        requires enough { AreEnough (map (λ b. state b) bin.items) (platform c.now) }
+        ensures built { IfOk result (λ m. sys_of state m ≡ standing c.now [] (all_configured c.now 0 (platform c.now))) }
         ensures table { IfOk result (λ m. m.queue.table ≡ given_table 0 (platform c.now)) }
     {
-        let mut queue = EventQueue::new(alloc, &[1, 1, 1, 2])?;
-        let cpu = cpu_part(alloc, c, picked.cpu, &mut queue)?;
-        let exit = device_part(alloc, &exit_params(c), picked.exit, &mut queue)?;
-        let memory = device_part(alloc, &memory_params(c), picked.memory, &mut queue)?;
-        let uart = sender_part(alloc, &uart_params(c), picked.uart, &mut queue)?;
-        let mut parts = Vec::with_capacity(alloc, 4)?;
-        parts.push_reserved(cpu);
-        parts.push_reserved(exit);
-        parts.push_reserved(memory);
-        parts.push_reserved(uart);
-        Machine::of_parts(alloc, c, parts, queue)
+        let mut parts = draw(alloc, rows.as_slice(), bin)?;
+        let counts = counts(alloc, rows.as_slice())?;
+        let mut queue = EventQueue::new(alloc, counts.as_slice())?;
+        configure_parts(alloc, c, rows.as_slice(), &mut parts, &mut queue)?;
+        Machine::of_parts(alloc, c, rows, parts, queue)
     }
 
     /// The machine of configured parts and the queue of their events.
     fn of_parts(
         alloc: Global,
         c: &Config,
+        rows: Vec<Part>,
         parts: Vec<Box<dyn SimObject>>,
         queue: EventQueue,
     ) -> Result<Machine, NoMemory>
-        requires { IsValidConfig c.now }
-        ensures machine { IfOk result (λ m. sys_of state m ≡ standing c.now queue.pending (map (λ b. state b) parts.items)) }
+        requires valid { IsValidConfig c.now }
+        requires rows { map part_shown rows.items ≡ platform c.now }
+        ensures machine { IfOk result (λ m. sys_of state m
+            ≡ standing c.now queue.pending (map (λ b. state b) parts.items)) }
         ensures table { IfOk result (λ m. m.queue.table ≡ queue.table) }
     {
-        let counters = Counters::new(alloc, c)?;
+        let counters = Counters::new(alloc, rows.len())?;
+        let router = Router::new(alloc, c, rows.as_slice())?;
         let tick = counters.since();
         Ok(Machine {
+            platform: rows,
             parts,
             queue,
             out: Outbox::new(alloc)?,
             counters,
-            router: Router::new(alloc, c)?,
+            router,
             tick,
             draining: true,
         })
     }
-}
-
-/// What the exit device is configured with.
-fn exit_params(c: &Config) -> Params
-    requires { IsValidConfig c.now }
-    ensures { result ≡ params_of c.now 1 (Own.Exit c.now.exit_latency) }
-{
-    params(
-        c,
-        EXIT,
-        Own::Exit {
-            latency: c.exit_latency,
-        },
-    )
-}
-
-/// What memory is configured with.
-fn memory_params(c: &Config) -> Params
-    requires { IsValidConfig c.now }
-    ensures { result ≡ params_of c.now 2 (Own.Mem c.now.mem_latency c.now.mem_queue) }
-{
-    params(
-        c,
-        MEMORY,
-        Own::Mem {
-            latency: c.mem_latency,
-            queue: c.mem_queue,
-        },
-    )
-}
-
-/// What the UART is configured with.
-fn uart_params(c: &Config) -> Params
-    requires { IsValidConfig c.now }
-    ensures { result ≡ params_of c.now 3 (Own.Uart c.now.uart_latency c.now.uart_chartime) }
-{
-    params(
-        c,
-        UART,
-        Own::Uart {
-            latency: c.uart_latency,
-            chartime: c.uart_chartime,
-        },
-    )
 }

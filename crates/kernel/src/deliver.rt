@@ -3,17 +3,18 @@ ghost use Rattle.std.specs.Prelude.{◌≡◌, ℕ, ◌+◌, ◌*◌, ◌≤◌,
 ghost use Rattle.std.specs.Bool.{OnTrue, OnFalse};
 ghost use Rattle.std.specs.Option.{option_map};
 ghost use Rattle.gc_base.specs.declared.limits.TheConstants.{LATENCY_MAX};
-ghost use Rattle.gm_model.specs.Deliver.{deliver_wake, deliver_atomic, deliver_line, way_latency};
-ghost use Rattle.gm_model.specs.Packet.{fault_response};
-ghost use Rattle.gm_model.specs.Router.{destination};
-ghost use Rattle.gm_model.specs.Sys.{active_cpu, pass_at};
-ghost use Rattle.gm_model.specs.declared.wake.Wake.TheVariants.{Line, AtomicDone};
-ghost use Rattle.kernel.specs.Ready.{IsReadyForWake, IsReadyForPacket, MayGoOn, HasItemRoom, IsUnderWay, Delivers, passed_to, answered};
+ghost use Rattle.gm_model.specs.Deliver.{deliver_wake, deliver_passed, done_at, deliver_atomic, deliver_line, deliver_offer, told_wake, way_latency};
+ghost use Rattle.gm_words.specs.Packet.{fault_response};
+ghost use Rattle.gm_words.specs.Router.{destination};
+ghost use Rattle.gm_model.specs.Sys.{active_cpu, pass_at, peer_in, step_at};
+ghost use Rattle.gm_words.specs.declared.wake.Wake.TheVariants.{Line, AtomicDone};
+ghost use Rattle.kernel.specs.Ready.{IsReadyForWake, IsReadyForPacket, MayGoOn, HasItemRoom, IsUnderWay, Delivers, MayOffer};
 
 use crate::boxes::{arch_box, pass_box, wake_box};
 use crate::machine::Machine;
-use gc_base::ObjId;
-use gm_model::{Act, Packet, Wake, Way};
+use crate::wiring::peer;
+use gc_base::{ObjId, PortNo};
+use gm_model::{Act, Answer, Packet, Wake, Way};
 use obj_core::Item;
 
 /// The latency of a way, in ticks.
@@ -35,11 +36,21 @@ fn refuse(packet: &mut Packet)
     packet.refuse();
 }
 
+/// What is told to who offered: any other answer than a refusal is taken for one that took the packet.
+fn told(answer: Answer, port: PortNo) -> Wake
+    ensures { result ≡ told_wake answer port.0 }
+{
+    match answer {
+        Answer::Refused => Wake::Refused { port },
+        Answer::Taken | Answer::Nothing => Wake::Taken { port },
+    }
+}
+
 impl Machine {
     ghost use Rattle.kernel.specs.Shown.{sys_of, delivery_of};
 
     /// Delivers the first item, if one is left. Where that is a packet and nothing else is to be delivered, its sender is
-    /// told at once, which is the next item. In atomic mode no part offers, so no port has a peer.
+    /// told at once, which is the next item.
     #[inline(always)]
     pub(crate) fn deliver_item(&mut self) -> bool
         requires { IsUnderWay (delivery_of state self.old) self.old.queue.table }
@@ -77,20 +88,24 @@ impl Machine {
             }
             Some(
                 Item::Sent {
-                    act: Act::Offer { .. },
-                    ..
+                    sender,
+                    act: Act::Offer { port, pkt },
                 },
             ) => {
+                let (sender, port, packet) = (*sender, *port, *pkt);
                 self.out.drop_first();
+                self.offer(sender, port, packet);
                 true
             }
             Some(
                 Item::Sent {
-                    act: Act::CallRetry { .. },
-                    ..
+                    sender,
+                    act: Act::CallRetry { port },
                 },
             ) => {
+                let called = peer(self.platform.as_slice(), *sender, *port);
                 self.out.drop_first();
+                self.wake(called.part, Wake::Retry { port: called.port });
                 true
             }
             Some(
@@ -116,8 +131,10 @@ impl Machine {
     #[inline(always)]
     fn answer(&mut self, sender: ObjId, packet: Packet, latency: u64)
         requires room { HasItemRoom (delivery_of state self.old) }
-        requires ready { self.old.out.items ≡ [] → IsReadyForWake (delivery_of state self.old) self.old.queue.table sender.0 (AtomicDone packet latency) }
-        ensures told { Delivers 0 (answered (delivery_of state self.old) sender.0 packet latency) (delivery_of state self.new) }
+        requires ready { self.old.out.items ≡ []
+            → IsReadyForWake (delivery_of state self.old) self.old.queue.table sender.0 (AtomicDone packet latency) }
+        ensures told { Delivers 0 (done_at (delivery_of state self.old) sender.0 packet latency)
+            (delivery_of state self.new) }
         ensures table { self.new.queue.table ≡ self.old.queue.table }
     {
         if self.out.is_empty() {
@@ -133,10 +150,11 @@ impl Machine {
 
     /// Wakes a part.
     #[inline(always)]
-    pub(crate) fn wake(&mut self, i: ObjId, w: Wake)
+    pub(crate) fn wake(&mut self, i: ObjId, w: Wake) -> Answer
         requires room { HasItemRoom (delivery_of state self.old) }
         requires ready { IsReadyForWake (delivery_of state self.old) self.old.queue.table i.0 w }
         ensures delivered { delivery_of state self.new ≡ deliver_wake (delivery_of state self.old) i.0 w }
+        ensures answer { result ≡ (step_at (sys_of state self.old) i.0 w).answer }
         ensures table { self.new.queue.table ≡ self.old.queue.table }
     {
         self.out.for_sender(i);
@@ -146,15 +164,37 @@ impl Machine {
             self.tick,
             &mut self.queue,
             &mut self.out,
+        )
+    }
+
+    /// Shows a packet to the peer of a port, and tells the sender what the peer answers.
+    fn offer(&mut self, sender: ObjId, port: PortNo, packet: Packet)
+        requires room { HasItemRoom (delivery_of state self.old) }
+        requires allowed { MayOffer (delivery_of state self.old) self.old.queue.table sender.0 port.0 packet
+            (peer_in (sys_of state self.old).wires sender.0 port.0) }
+        ensures delivered { delivery_of state self.new ≡ deliver_offer (delivery_of state self.old) sender.0 port.0 packet
+            (peer_in (sys_of state self.old).wires sender.0 port.0) }
+        ensures table { self.new.queue.table ≡ self.old.queue.table }
+    {
+        let shown = peer(self.platform.as_slice(), sender, port);
+        let answer = self.wake(
+            shown.part,
+            Wake::Offer {
+                port: shown.port,
+                pkt: packet,
+            },
         );
+        self.wake(sender, told(answer, port));
     }
 
     /// Gives the active CPU, if there is one, an interrupt line's level.
     fn set_line(&mut self, bit: u8, level: bool)
         requires room { HasItemRoom (delivery_of state self.old) }
         requires few { length (sys_of state self.old).objects ≤ 256 }
-        requires ready { IfSome (active_cpu (sys_of state self.old).objects) (λ i. IsReadyForWake (delivery_of state self.old) self.old.queue.table i (Line bit level)) }
-        ensures delivered { (sender : ℕ) → delivery_of state self.new ≡ deliver_line (delivery_of state self.old) sender (Line bit level) (active_cpu (sys_of state self.old).objects) }
+        requires ready { IfSome (active_cpu (sys_of state self.old).objects)
+            (λ i. IsReadyForWake (delivery_of state self.old) self.old.queue.table i (Line bit level)) }
+        ensures delivered { delivery_of state self.new
+            ≡ deliver_line (delivery_of state self.old) (Line bit level) (active_cpu (sys_of state self.old).objects) }
         ensures table { self.new.queue.table ≡ self.old.queue.table }
     {
         if let Some(cpu) = self.active_cpu() {
@@ -180,7 +220,9 @@ impl Machine {
     fn pass(&mut self, packet: &mut Packet) -> u64
         requires room { HasItemRoom (delivery_of state self.old) }
         requires allowed { MayGoOn (delivery_of state self.old) self.old.queue.table packet.old }
-        ensures delivered { (sender : ℕ) → answered (delivery_of state self.new) sender packet.new result ≡ deliver_atomic (delivery_of state self.old) sender packet.old (destination (sys_of state self.old).router.routes packet.old.addr) }
+        ensures delivered { (sender : ℕ) → done_at (delivery_of state self.new) sender packet.new result
+            ≡ deliver_atomic (delivery_of state self.old) sender packet.old
+            (destination (sys_of state self.old).router.routes packet.old.addr) }
         ensures table { self.new.queue.table ≡ self.old.queue.table }
     {
         let way = self.router.latency();
@@ -198,7 +240,7 @@ impl Machine {
     fn pass_to(&mut self, server: ObjId, packet: &mut Packet) -> u64
         requires room { HasItemRoom (delivery_of state self.old) }
         requires ready { IsReadyForPacket (delivery_of state self.old) self.old.queue.table server.0 packet.old }
-        ensures passed { delivery_of state self.new ≡ passed_to (delivery_of state self.old) server.0 packet.old }
+        ensures passed { delivery_of state self.new ≡ deliver_passed (delivery_of state self.old) server.0 packet.old }
         ensures packet { packet.new ≡ (pass_at (sys_of state self.old) server.0 packet.old).packet }
         ensures latency { result ≡ way_latency (pass_at (sys_of state self.old) server.0 packet.old).way }
         ensures most { result ≤ LATENCY_MAX }

@@ -1,9 +1,8 @@
 // What the entries of an event tell.
 ghost use Rattle.std.specs.Prelude.{◌≡◌, ℕ, ◌+◌, ◌-◌, ◌^◌, ◌*◌, ◌<◌, ◌≤◌, ◌++◌, List, [], ◌∷◌, length};
 ghost use Rattle.std.specs.Option.{option_to_list};
-ghost use Rattle.gm_model.specs.Counts.{count_event};
-ghost use Rattle.gm_model.specs.Run.{console_of, console_bytes};
-ghost use Rattle.gm_model.specs.Sound.{IsCountedUpTo};
+ghost use Rattle.gm_words.specs.Counts.{count_event, IsCountedUpTo};
+ghost use Rattle.gm_words.specs.Entries.{console_of, console_bytes};
 
 use crate::run_end::Fired;
 use ev_queue::Due;
@@ -16,8 +15,8 @@ const DATA: u8 = 1;
 
 /// An event is counted, and each entry that it noted.
 pub(crate) fn count(counters: &mut Counters, entries: &[Entry])
-    requires counts { IsCountedUpTo (2 ^ 60) counters.old.counts }
-    requires events { counters.old.counts.events < 2 ^ 60 }
+    requires counts { IsCountedUpTo (2 ^ 63) counters.old.counts }
+    requires events { counters.old.counts.events < 2 ^ 63 }
     requires few { length entries.now ≤ 528 }
     ensures counts { counters.new.counts ≡ count_event counters.old.counts entries.now }
     ensures since { counters.new.since ≡ counters.old.since }

@@ -10,14 +10,15 @@ mod boxes;
 mod build;
 mod build_fault;
 mod deliver;
+mod draw;
 mod entries;
 mod load;
 mod machine;
-mod pick;
 mod reason;
 mod router;
 mod run_end;
 mod serve;
+mod wiring;
 
 pub use build_fault::BuildFault;
 pub use machine::Machine;

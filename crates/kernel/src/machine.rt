@@ -1,12 +1,12 @@
 // The machine, and what it tells between two events.
-ghost use Rattle.std.specs.Prelude.{◌≡◌, ◌+◌, ◌-◌, ◌≤◌, [], length, take, drop, map};
+ghost use Rattle.std.specs.Prelude.{◌≡◌, ◌+◌, ◌-◌, ◌≤◌, true, [], length, take, drop, map};
 
 use crate::boxes::{arch_box, exit_box, read_box, resume_box, write_box};
 use crate::router::Router;
 use ev_queue::EventQueue;
 use gc_base::Tick;
 use gm_model::Entry;
-use gm_model::platform::{ATOMIC_CPU, EXIT, MEMORY, RAM_BASE};
+use gm_model::platform::{EXIT_BASE, Part, RAM_BASE};
 use obj_core::{Outbox, SimObject};
 use probe_stats::Counters;
 use rv_step::Arch;
@@ -17,6 +17,8 @@ use rv_step::Arch;
 /// - Between two calls each wake that may come is allowed (`IsMachine`).
 #[derive(Drop)]
 pub struct Machine {
+    /// What each part is, where packets for it go, and which ports it is wired to.
+    pub(crate) platform: Vec<Part>,
     pub(crate) parts: Vec<Box<dyn SimObject>>,
     pub(crate) queue: EventQueue,
     pub(crate) out: Outbox,
@@ -32,7 +34,7 @@ impl Machine {
     ghost use Rattle.gm_model.specs.Command.{resume_step};
     ghost use Rattle.gm_model.specs.View.{own_ram, program_state};
     ghost use Rattle.rv_step.specs.FlatMem.{ram_base};
-    ghost use Rattle.gm_model.specs.Drained.{IsDrained};
+    ghost use Rattle.gm_model.specs.Drained.{is_settled};
     ghost use Rattle.kernel.specs.Settled.{IsSettled};
     ghost use Rattle.kernel.specs.Shown.{sys_of, entries_of, IsMachine};
 
@@ -57,23 +59,28 @@ impl Machine {
         self.parts.as_slice()
     }
 
-    /// The hart's state.
+    /// The hart's state; a machine that has no hart tells a reset one.
     pub fn arch(&self) -> Arch
-        requires { IsMachine state self.now }
         ensures { result ≡ (program_state (sys_of state self.now) []).arch }
     {
-        match arch_box(&self.parts[ATOMIC_CPU.0 as usize]) {
-            Some(arch) => arch,
-            None => unreachable!(),
+        for i in 0..self.parts.len() {
+            if let Some(arch) = arch_box(&self.parts[i]) {
+                return arch;
+            }
         }
+        Arch::reset(0)
     }
 
     /// The number with which the guest has exited, if it has.
     pub fn exited(&self) -> Option<u32>
-        requires { IsMachine state self.now }
-        ensures { result ≡ exit_of (sys_of state self.now).objects }
+        ensures { result ≡ exit_of (sys_of state self.now) }
     {
-        exit_box(&self.parts[EXIT.0 as usize])
+        let exit = self.router.destination(EXIT_BASE)?.0 as usize;
+        if exit < self.parts.len() {
+            exit_box(&self.parts[exit])
+        } else {
+            None
+        }
     }
 
     /// RAM's own bytes from an address on.
@@ -83,13 +90,17 @@ impl Machine {
         requires most { addr - ram_base + length to.old ≤ length (own_ram (sys_of state self.now).objects) }
         ensures { to.new ≡ take (length to.old) (drop (addr - ram_base) (own_ram (sys_of state self.now).objects)) }
     {
-        read_box(&self.parts[MEMORY.0 as usize], addr - RAM_BASE, to);
+        for i in 0..self.parts.len() {
+            if read_box(&self.parts[i], addr - RAM_BASE, to) {
+                return;
+            }
+        }
     }
 
     /// Sets RAM's own bytes from an address on, where the machine is drained.
     pub fn put_raw(&mut self, addr: u64, from: &[u8])
         requires machine { IsMachine state self.old }
-        requires drained { IsDrained (sys_of state self.old) }
+        requires drained { is_settled (sys_of state self.old) ≡ true }
         requires least { ram_base ≤ addr }
         requires most { addr - ram_base + length from.now ≤ length (own_ram (sys_of state self.old).objects) }
         ensures raw { sys_of state self.new ≡ with_raw addr from.now (sys_of state self.old) }
@@ -100,7 +111,7 @@ impl Machine {
         self.write_ram(addr - RAM_BASE, from);
     }
 
-    /// Sets RAM's own bytes from a place on.
+    /// Sets RAM's own bytes from a place on. Parts that keep none deny them.
     fn write_ram(&mut self, at: u64, from: &[u8])
         requires machine { IsMachine state self.old }
         requires within { at + length from.now ≤ length (own_ram (sys_of state self.old).objects) }
@@ -108,7 +119,9 @@ impl Machine {
         ensures entries { entries_of self.new ≡ entries_of self.old }
         ensures table { self.new.queue.table ≡ self.old.queue.table }
     {
-        write_box(&mut self.parts[MEMORY.0 as usize], at, from);
+        for i in 0..self.parts.len() {
+            write_box(&mut self.parts[i], at, from);
+        }
     }
 
     /// Lets all parts of a machine that was asked to drain, and is drained, go on, in the order of their paths.

@@ -1,13 +1,14 @@
 // Where packets go in atomic mode.
-ghost use Rattle.std.specs.Prelude.{◌≡◌, ℕ, ◌+◌, ◌-◌, ◌≤◌, IfOk};
+ghost use Rattle.std.specs.Prelude.{◌≡◌, ◌+◌, ◌≤◌, ◌++◌, length, map, IfOk, OnOk};
+ghost use Rattle.kernel.specs.Router.{routes_shown};
 ghost use Rattle.std.specs.Option.{option_map};
-ghost use Rattle.gc_base.specs.declared.limits.TheConstants.{LATENCY_MAX};
 ghost use Rattle.cfg_tree.specs.Valid.{IsValidConfig};
-ghost use Rattle.gm_model.specs.Router.{destination, router_of};
+ghost use Rattle.gm_words.specs.Router.{destination, route_to, routes_of};
+ghost use Rattle.gm_words.specs.Shown.{part_shown};
 
 use gc_base::{NoMemory, ObjId};
 use gm_model::Config;
-use gm_model::platform::{DEVICE_BYTES, EXIT, EXIT_BASE, MEMORY, RAM_BASE, UART, UART_BASE};
+use gm_model::platform::Part;
 use std::alloc::Global;
 use std::marker::Model;
 
@@ -27,7 +28,7 @@ pub struct Router {
 }
 
 impl Model for Router {
-    ghost use Rattle.gm_model.specs.Router.{Router as ModelRouter};
+    ghost use Rattle.gm_words.specs.Router.{Router as ModelRouter};
     ghost use Rattle.kernel.specs.Router.{routes_shown};
 
     ghost Value = { ModelRouter };
@@ -36,18 +37,18 @@ impl Model for Router {
 }
 
 impl Router {
-    /// The router of a configuration: both crossbars take their latencies.
-    pub(crate) fn new(alloc: Global, c: &Config) -> Result<Router, NoMemory>
-        requires { IsValidConfig c.now }
-        ensures { IfOk result (λ r. r ≡ router_of c.now) }
+    /// The router of a platform: each part's addresses go to it, and both crossbars take their latencies.
+    pub(crate) fn new(alloc: Global, c: &Config, platform: &[Part]) -> Result<Router, NoMemory>
+        requires valid { IsValidConfig c.now }
+        requires few { length platform.now ≤ 256 }
+        ensures { IfOk result (λ r. r ≡ record {
+          latency = c.now.corebus_latency + c.now.membus_latency;
+          routes = routes_of 0 (map part_shown platform.now);
+        }) }
     {
-        let mut routes = Vec::with_capacity(alloc, 3)?;
-        routes.push_reserved(route_to(EXIT_BASE, DEVICE_BYTES, EXIT));
-        routes.push_reserved(route_to(RAM_BASE, c.system_ram, MEMORY));
-        routes.push_reserved(route_to(UART_BASE, DEVICE_BYTES, UART));
         Ok(Router {
             latency: c.corebus_latency + c.membus_latency,
-            routes,
+            routes: routes(alloc, platform)?,
         })
     }
 
@@ -71,15 +72,29 @@ impl Router {
     }
 }
 
-/// So many bytes from a first address on go to an object.
-fn route_to(first: u64, bytes: u64, object: ObjId) -> Route
-    requires least { 1 ≤ bytes }
-    requires most { first + bytes ≤ 4294967296 }
-    ensures { result ≡ record { first = first; last = first + bytes - 1; object = object } }
+/// The routes to the parts of a platform, in their order.
+fn routes(alloc: Global, platform: &[Part]) -> Result<Vec<Route>, NoMemory>
+    requires { length platform.now ≤ 256 }
+    ensures { IfOk result (λ v. routes_shown v.items ≡ routes_of 0 (map part_shown platform.now)) }
 {
-    Route {
-        first,
-        last: first + bytes - 1,
-        object,
+    let mut routes = Vec::new(alloc);
+    for i in 0..platform.len() {
+        add_route(&mut routes, &platform[i], ObjId(i as u8))?;
     }
+    Ok(routes)
+}
+
+/// The route to a part more, where the part serves addresses.
+fn add_route(routes: &mut Vec<Route>, part: &Part, object: ObjId) -> Result<(), NoMemory>
+    ensures { OnOk result (routes_shown routes.new.items
+        ≡ routes_shown routes.old.items ++ route_to object.0 (part_shown part.now).range) }
+{
+    if let Some(range) = part.range {
+        routes.push(Route {
+            first: range.first,
+            last: range.last,
+            object,
+        })?;
+    }
+    Ok(())
 }

@@ -6,10 +6,11 @@ ghost use Rattle.gc_outside.specs.Faults.{Rose};
 ghost use Rattle.gc_outside.specs.Sink.{Appends, AppendsFront};
 ghost use Rattle.gc_outside.specs.Told.{Told};
 ghost use Rattle.ev_queue.specs.PendingList.{first};
-ghost use Rattle.gm_model.specs.AtomicMachine.{IsRunReplayed};
+ghost use Rattle.gm_system.specs.Runs.{IsRunReplayed};
 ghost use Rattle.gm_model.specs.Deliver.{deliver, items_max};
 ghost use Rattle.gm_model.specs.Fire.{fire_first, event_delivered, counted};
-ghost use Rattle.gm_model.specs.Run.{console_of, reason_for, run_to};
+ghost use Rattle.gm_words.specs.Entries.{console_of};
+ghost use Rattle.gm_model.specs.Run.{reason_for, run_to};
 ghost use Rattle.kernel.specs.Ends.{TellsEnd, StopsAtByte, IsFaultOf, last_noted};
 ghost use Rattle.kernel.specs.Ready.{IsUnderWay, MayServe, HasEventsLeft, at_tick, not_begun, without_first};
 ghost use Rattle.kernel.specs.declared.run_end.RunFault.{RunFault};
@@ -38,7 +39,8 @@ impl Machine {
         ensures event { option_map (λ f. f.due) result ≡ first (sys_of state self.old).pending }
         ensures fired { sys_of state self.new ≡ (fire_first (sys_of state self.old)).sys }
         ensures entries { OnSome result (entries_of self.new ≡ (fire_first (sys_of state self.old)).entries) }
-        ensures console { IfSome result (λ f. option_to_list f.console ≡ console_of (fire_first (sys_of state self.old)).entries) }
+        ensures console { IfSome result (λ f. option_to_list f.console
+            ≡ console_of (fire_first (sys_of state self.old)).entries) }
         ensures none { IfNone result (entries_of self.new ≡ entries_of self.old) }
         // What it noted is the instruction set's over flat memory.
         ensures replay { IsRunReplayed (sys_of state self.old) (fire_first (sys_of state self.old)) }
@@ -63,8 +65,10 @@ impl Machine {
     #[inline(always)]
     fn serve(&mut self, due: &Due)
         requires { MayServe (at_tick due.now.tick (sys_of state self.old)) due.now self.old.queue.table }
-        ensures served { sys_of state self.new ≡ (counted (event_delivered (at_tick due.now.tick (sys_of state self.old)) due.now)).sys }
-        ensures entries { entries_of self.new ≡ (event_delivered (at_tick due.now.tick (sys_of state self.old)) due.now).entries }
+        ensures served { sys_of state self.new
+            ≡ (counted (event_delivered (at_tick due.now.tick (sys_of state self.old)) due.now)).sys }
+        ensures entries { entries_of self.new
+            ≡ (event_delivered (at_tick due.now.tick (sys_of state self.old)) due.now).entries }
         ensures table { self.new.queue.table ≡ self.old.queue.table }
     {
         self.begin(due.tick);
@@ -106,18 +110,22 @@ impl Machine {
         _report: &mut R,
     ) -> Result<RunEnd, RunFault>
         requires machine { IsMachine state self.old }
-        requires events { (sys_of state self.old).counts.events + g.budget < 2 ^ 55 }
+        requires events { (sys_of state self.old).counts.events + g.budget < 2 ^ 54 }
 
         ensures ended { IfOk result (λ e. TellsEnd e (run_to (sys_of state self.old) g)) }
         ensures budget { IfOk result (λ e. e.events ≤ g.budget) }
         ensures ran { OnOk result (sys_of state self.new ≡ (run_to (sys_of state self.old) g).ran.sys) }
-        ensures console { OnOk result (Told (Appends (console_of (run_to (sys_of state self.old) g).ran.entries)) (C.taken console.old) (C.taken console.new)) }
-        ensures noted { OnOk result (entries_of self.new ≡ last_noted (sys_of state self.old) (entries_of self.old) (run_to (sys_of state self.old) g).events) }
+        ensures console { OnOk result (Told (Appends (console_of (run_to (sys_of state self.old) g).ran.entries))
+            (C.taken console.old) (C.taken console.new)) }
+        ensures noted { OnOk result (entries_of self.new
+            ≡ last_noted (sys_of state self.old) (entries_of self.old) (run_to (sys_of state self.old) g).events) }
         ensures replay { IsRunReplayed (sys_of state self.old) (run_to (sys_of state self.old) g).ran }
 
         // A fault of the console leaves the machine after the whole event whose byte was refused.
-        ensures stopped { OnErr result (StopsAtByte (sys_of state self.old) g (sys_of state self.new) (entries_of self.new) (C.taken console.old) (C.taken console.new)) }
-        ensures cause { IfErr result (λ f. IsFaultOf f (C.faults console.old) (C.faults console.new) (R.faults _report.old) (R.faults _report.new)) }
+        ensures stopped { OnErr result (StopsAtByte (sys_of state self.old) g (sys_of state self.new)
+            (entries_of self.new) (C.taken console.old) (C.taken console.new)) }
+        ensures cause { IfErr result (λ f. IsFaultOf f (C.faults console.old) (C.faults console.new)
+            (R.faults _report.old) (R.faults _report.new)) }
         ensures count { C.faults console.old ≤ C.faults console.new }
 
         // Nothing is traced yet, so the report takes nothing.
@@ -155,8 +163,10 @@ impl Machine {
         requires tick { IfSome (first (sys_of state self.old).pending) (λ d. d.tick ≤ TOP) }
         ensures fired { sys_of state self.new ≡ (fire_first (sys_of state self.old)).sys }
         ensures entries { entries_of self.new ≡ (fire_first (sys_of state self.old)).entries }
-        ensures console { OnOk result (Told (Appends (console_of (fire_first (sys_of state self.old)).entries)) (C.taken console.old) (C.taken console.new)) }
-        ensures cut { OnErr result (Told (AppendsFront (console_of (fire_first (sys_of state self.old)).entries)) (C.taken console.old) (C.taken console.new)) }
+        ensures console { OnOk result (Told (Appends (console_of (fire_first (sys_of state self.old)).entries))
+            (C.taken console.old) (C.taken console.new)) }
+        ensures cut { OnErr result (Told (AppendsFront (console_of (fire_first (sys_of state self.old)).entries))
+            (C.taken console.old) (C.taken console.new)) }
         ensures byte { OnErr result (length (console_of (fire_first (sys_of state self.old)).entries) ≡ 1) }
         ensures fault { IfErr result (λ f. (f ≡ RunFault.Console) × Rose (C.faults console.old) (C.faults console.new)) }
         ensures count { C.faults console.old ≤ C.faults console.new }

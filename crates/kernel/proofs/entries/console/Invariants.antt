@@ -1,5 +1,5 @@
 use Rattle.std.proofs.Common.{◌≡◌, drop}
-use Rattle.gm_model.specs.Run.{console_of}
+use Rattle.gm_words.specs.Entries.{console_of}
 use Rattle.kernel.proofs.entries.console.Given as goal
 
 -- the bytes are those of the rest

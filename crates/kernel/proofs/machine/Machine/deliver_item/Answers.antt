@@ -1,6 +1,9 @@
-use Rattle.std.proofs.Common.{refl, ◌≡◌}
-use Rattle.kernel.proofs.Delivered.{sent_first, done_first, rest_room, first_delivered, answer_room, answer_ready, packet_delivered}
-use Rattle.kernel.proofs.UnderWay.{pass_ready, line_ready, done_ready, parts_few}
+use Rattle.std.proofs.Common.{◌≡◌, ap, map, ◌∙◌}
+use Rattle.gm_words.specs.Platform.{wires_of}
+use Rattle.gm_words.specs.Shown.{end_shown, part_shown}
+use Rattle.gm_model.specs.Sys.{peer_in}
+use Rattle.kernel.proofs.Delivered.{called_ready, called_delivered, sent_first, done_first, rest_room, first_delivered, answer_room, answer_ready, packet_delivered}
+use Rattle.kernel.proofs.UnderWay.{pass_ready, line_ready, done_ready, offer_ready, call_ready, few_parts}
 use Rattle.kernel.proofs.machine.Machine.deliver_item.Goals as goal
 
 pub pass-latency-requires-clause-room : goal.pass-latency-requires-clause-room
@@ -40,16 +43,16 @@ pub returns-in-Some-Done-clause-delivered : goal.returns-in-Some-Done-clause-del
 returns-in-Some-Done-clause-delivered g c =
     let a = c.in-Some-Done in
     let e = done_first _ a.field-0.now a.sender a.pkt a.latency a.ensures.some a.field-0-is in
-    first_delivered _ _ _ _ e (rw c.drop_first-in-Some-Done.ensures at c.wake.ensures.delivered)
+    first_delivered _ _ _ _ e (rw c.drop_first-in-Some-Done.ensures at c.wake-in-Some-Done.ensures.delivered)
 
-pub wake-requires-clause-room : goal.wake-requires-clause-room
-wake-requires-clause-room g c =
+pub wake-requires-in-Some-Done-clause-room : goal.wake-requires-in-Some-Done-clause-room
+wake-requires-in-Some-Done-clause-room g c =
     let a = c.in-Some-Done in
     let e = done_first _ a.field-0.now a.sender a.pkt a.latency a.ensures.some a.field-0-is in
     rw c.drop_first-in-Some-Done.ensures (rest_room _ _ _ _ e c.requires)
 
-pub wake-requires-clause-ready : goal.wake-requires-clause-ready
-wake-requires-clause-ready g c =
+pub wake-requires-in-Some-Done-clause-ready : goal.wake-requires-in-Some-Done-clause-ready
+wake-requires-in-Some-Done-clause-ready g c =
     let a = c.in-Some-Done in
     let e = done_first _ a.field-0.now a.sender a.pkt a.latency a.ensures.some a.field-0-is in
     rw c.drop_first-in-Some-Done.ensures (done_ready _ _ a.sender.0 a.latency a.pkt _ e c.requires)
@@ -61,7 +64,7 @@ set_line-requires-clause-room g c =
     rw c.drop_first-in-Some-Sent-default-SetLine.ensures (rest_room _ _ _ _ e c.requires)
 
 pub set_line-requires-clause-few : goal.set_line-requires-clause-few
-set_line-requires-clause-few g c = parts_few _ _ c.requires
+set_line-requires-clause-few g c = few_parts _ _ c.requires
 
 pub set_line-requires-clause-ready : goal.set_line-requires-clause-ready
 set_line-requires-clause-ready g c =
@@ -73,16 +76,44 @@ pub returns-in-Some-Sent-default-SetLine-clause-delivered : goal.returns-in-Some
 returns-in-Some-Sent-default-SetLine-clause-delivered g c =
     let a = c.in-Some-Sent-default-SetLine in
     let e = sent_first _ a.field-0.now a.field-0-0 a.field-0-1 _ a.ensures.some a.field-0-is a.field-0-1-is in
-    first_delivered _ _ _ _ e (rw c.drop_first-in-Some-Sent-default-SetLine.ensures at (c.set_line.ensures.delivered a.field-0-0.0))
+    first_delivered _ _ _ _ e (rw c.drop_first-in-Some-Sent-default-SetLine.ensures at c.set_line.ensures.delivered)
 
 pub returns-in-Some-Sent-default-Offer-clause-delivered : goal.returns-in-Some-Sent-default-Offer-clause-delivered
 returns-in-Some-Sent-default-Offer-clause-delivered g c =
     let a = c.in-Some-Sent-default-Offer in
-    let e = sent_first _ a.field-0.now a.field-0-0 a.field-0-1 _ a.ensures.some a.field-0-is a.field-0-1-is in
-    first_delivered _ _ _ _ e (rw c.drop_first-in-Some-Sent-default-Offer.ensures refl)
+    let e = sent_first _ a.field-0.now a.sender a.field-0-1 _ a.ensures.some a.field-0-is a.field-0-1-is in
+    first_delivered _ _ _ _ e (rw c.drop_first-in-Some-Sent-default-Offer.ensures at c.offer.ensures.delivered)
+
+pub offer-requires-clause-room : goal.offer-requires-clause-room
+offer-requires-clause-room g c =
+    let a = c.in-Some-Sent-default-Offer in
+    let e = sent_first _ a.field-0.now a.sender a.field-0-1 _ a.ensures.some a.field-0-is a.field-0-1-is in
+    rw c.drop_first-in-Some-Sent-default-Offer.ensures (rest_room _ _ _ _ e c.requires)
+
+pub offer-requires-clause-allowed : goal.offer-requires-clause-allowed
+offer-requires-clause-allowed g c =
+    let a = c.in-Some-Sent-default-Offer in
+    let e = sent_first _ a.field-0.now a.sender a.field-0-1 _ a.ensures.some a.field-0-is a.field-0-1-is in
+    rw c.drop_first-in-Some-Sent-default-Offer.ensures (offer_ready _ _ a.sender.0 a.port a.pkt _ e c.requires)
+
+pub wake-requires-clause-room : goal.wake-requires-clause-room
+wake-requires-clause-room g c =
+    let a = c.in-Some-Sent-default-CallRetry in
+    let e = sent_first _ a.field-0.now a.sender a.field-0-1 _ a.ensures.some a.field-0-is a.field-0-1-is in
+    rw c.drop_first-in-Some-Sent-default-CallRetry.ensures (rest_room _ _ _ _ e c.requires)
+
+pub wake-requires-clause-ready : goal.wake-requires-clause-ready
+wake-requires-clause-ready g c =
+    let a = c.in-Some-Sent-default-CallRetry in
+    let e = sent_first _ a.field-0.now a.sender a.field-0-1 _ a.ensures.some a.field-0-is a.field-0-1-is in
+    let same : end_shown c.peer-called.result ≡ peer_in (wires_of (map part_shown c.args.self.now.platform.items)) a.sender.0 a.port.0 =
+    c.peer-called.ensures ∙ ap (λ ps. peer_in (wires_of (map part_shown ps)) a.sender.0 a.port.0) c.as_slice.ensures.value in
+    rw c.drop_first-in-Some-Sent-default-CallRetry.ensures (called_ready _ _ (end_shown c.peer-called.result) _ same (call_ready _ _ a.sender.0 a.port _ e c.requires))
 
 pub returns-in-Some-Sent-default-CallRetry-clause-delivered : goal.returns-in-Some-Sent-default-CallRetry-clause-delivered
 returns-in-Some-Sent-default-CallRetry-clause-delivered g c =
     let a = c.in-Some-Sent-default-CallRetry in
-    let e = sent_first _ a.field-0.now a.field-0-0 a.field-0-1 _ a.ensures.some a.field-0-is a.field-0-1-is in
-    first_delivered _ _ _ _ e (rw c.drop_first-in-Some-Sent-default-CallRetry.ensures refl)
+    let e = sent_first _ a.field-0.now a.sender a.field-0-1 _ a.ensures.some a.field-0-is a.field-0-1-is in
+    let same : end_shown c.peer-called.result ≡ peer_in (wires_of (map part_shown c.args.self.now.platform.items)) a.sender.0 a.port.0 =
+    c.peer-called.ensures ∙ ap (λ ps. peer_in (wires_of (map part_shown ps)) a.sender.0 a.port.0) c.as_slice.ensures.value in
+    first_delivered _ _ _ _ e (called_delivered _ _ (end_shown c.peer-called.result) _ same (rw c.drop_first-in-Some-Sent-default-CallRetry.ensures at c.wake.ensures.delivered))

@@ -1,5 +1,5 @@
 use Rattle.std.proofs.Common.{sym, ◌∙◌, ap}
-use Rattle.gm_model.specs.Run.{console_of}
+use Rattle.gm_words.specs.Entries.{console_of}
 use Rattle.kernel.proofs.Runs.{pop_may, byte_few, fired_sys, fired_entries, fired_sound, first_replayed, first_early}
 use Rattle.kernel.proofs.machine.Machine.fire.Goals as goal
 

@@ -1,49 +1,43 @@
-use Rattle.std.proofs.Common.{◌≡◌, ◌<◌, ◌∙◌, refl, ap, subst, arith, List, get_or, length}
-use Rattle.elf_image.specs.declared.piece.Piece.{Piece}
-use Rattle.kernel.proofs.Loads.{start_zeros, piece_fits, piece_put, image_put, entered_kept, loading_drained, loaded_settled}
+use Rattle.std.proofs.Common.{◌∙◌, refl, ap}
+use Rattle.elf_image.specs.Loading.{Loading}
+use Rattle.kernel.specs.Shown.{sys_of}
+use Rattle.kernel.proofs.Loads.{none_put, block_put, block_most, image_put, loaded_sound}
 use Rattle.kernel.proofs.machine.Machine.load_image.Goals as goal
 
-pub loop-piece-init : goal.loop-piece-init
-loop-piece-init g c = record {
-  put = λ config built fits. built.start ∙ start_zeros config built.mode;
+pub loop-block-init : goal.loop-block-init
+loop-block-init g c = record {
+  pieces = ap (λ (l : Loading). l.pieces) c.new-blocks.ensures.start ∙ c.items.ensures;
+  put = none_put (sys_of (λ b. (goal.SimObject-dyn g (b.vtable, b.value)).state b.value) c.args.self.now) c.new-blocks.result c.new-blocks.ensures.zero;
   entries = refl;
   machine = c.requires.machine;
 }
 
-pub load_piece-requires-clause-within : goal.load_piece-requires-clause-within
-load_piece-requires-clause-within g c =
-    let P : List Piece → Type 0 = λ ps. c.loop-piece.piece-index < length ps in
-    let Q : List Piece → Type 0 = λ ps. c.piece-item.result ≡ get_or ps c.loop-piece.piece-index c.piece-item.result in
-    (piece_fits _ _ _ _ c.piece-item.result (subst P c.items-piece-items.ensures c.loop-piece-test.true) (subst Q c.items-piece-items.ensures c.piece-item.is) c.loop-piece.invariant.put c.requires.fits).0
+pub put_raw-requires-clause-most : goal.put_raw-requires-clause-most
+put_raw-requires-clause-most g c =
+    let i = c.loop-block.invariant in
+    block_most (sys_of (λ b. (goal.SimObject-dyn g (b.vtable, b.value)).state b.value) c.args.self.now) (sys_of (λ b. (goal.SimObject-dyn g (b.vtable, b.value)).state b.value) c.loop-block.self) c.loop-block.blocks c.next.new.self c.in-Some.block.addr c.in-Some.block.bytes.now c.args.image.now.pieces i.pieces i.put c.in-Some.ensures.put c.requires.fits
 
-pub load_piece-requires-clause-size : goal.load_piece-requires-clause-size
-load_piece-requires-clause-size g c =
-    let P : List Piece → Type 0 = λ ps. c.loop-piece.piece-index < length ps in
-    let Q : List Piece → Type 0 = λ ps. c.piece-item.result ≡ get_or ps c.loop-piece.piece-index c.piece-item.result in
-    (piece_fits _ _ _ _ c.piece-item.result (subst P c.items-piece-items.ensures c.loop-piece-test.true) (subst Q c.items-piece-items.ensures c.piece-item.is) c.loop-piece.invariant.put c.requires.fits).1
-
-pub loop-piece-preserved : goal.loop-piece-preserved
-loop-piece-preserved g c =
-    let P : List Piece → Type 0 = λ ps. c.loop-piece.piece-index < length ps in
-    let Q : List Piece → Type 0 = λ ps. c.piece-item.result ≡ get_or ps c.loop-piece.piece-index c.piece-item.result in
+pub loop-block-preserved : goal.loop-block-preserved
+loop-block-preserved g c =
+    let i = c.loop-block.invariant in
     record {
-      put = piece_put _ _ _ _ c.loop-piece.piece-index c.piece-item.result (subst P c.items-piece-items.ensures c.loop-piece-test.true) (subst Q c.items-piece-items.ensures c.piece-item.is)
-          c.loop-piece.invariant.put c.load_piece.ensures.raw;
-      entries = c.load_piece.ensures.entries ∙ c.loop-piece.invariant.entries;
-      machine = c.load_piece.ensures.machine;
+      pieces = c.in-Some.ensures.pieces ∙ i.pieces;
+      put = block_put (sys_of (λ b. (goal.SimObject-dyn g (b.vtable, b.value)).state b.value) c.args.self.now) (sys_of (λ b. (goal.SimObject-dyn g (b.vtable, b.value)).state b.value) c.loop-block.self) c.loop-block.blocks c.next.new.self c.in-Some.block.addr c.in-Some.block.bytes.now c.args.image.now.pieces i.pieces i.put c.in-Some.ensures.put
+          (sys_of (λ b. (goal.SimObject-dyn g (b.vtable, b.value)).state b.value) c.put_raw.new.self) c.in-Some.ensures.pieces c.put_raw.ensures.raw;
+      entries = c.put_raw.ensures.entries ∙ i.entries;
+      machine = c.put_raw.ensures.machine;
     }
 
 pub returns-clause-loaded : goal.returns-clause-loaded
-returns-clause-loaded g c = image_put _ _ _ c.args.image.now c.loop-piece.piece-index (omega (arith, c.loop-piece-test.false, ap length c.items-piece-items.ensures)) c.loop-piece.invariant.put c.enter.ensures.entered
+returns-clause-loaded g c =
+    let i = c.loop-block.invariant in
+    image_put (sys_of (λ b. (goal.SimObject-dyn g (b.vtable, b.value)).state b.value) c.args.self.now) (sys_of (λ b. (goal.SimObject-dyn g (b.vtable, b.value)).state b.value) c.loop-block.self) (sys_of (λ b. (goal.SimObject-dyn g (b.vtable, b.value)).state b.value) c.enter.new.self) c.args.image.now c.loop-block.blocks i.pieces i.put c.in_default.ensures.end c.enter.ensures.entered
 
 pub returns-clause-machine : goal.returns-clause-machine
-returns-clause-machine g c = record {
-  sound = entered_kept _ _ _ _ c.args.image.now.entry c.loop-piece.invariant.machine.sound c.enter.ensures.entered c.enter.ensures.table;
-}
-
-pub load_piece-requires-clause-drained : goal.load_piece-requires-clause-drained
-load_piece-requires-clause-drained g c = loading_drained _ _ _ _ c.loop-piece.invariant.put c.requires.fits
-
-pub returns-clause-settled : goal.returns-clause-settled
-returns-clause-settled g c =
-    loaded_settled _ _ c.args.image.now (image_put _ _ _ c.args.image.now c.loop-piece.piece-index (omega (arith, c.loop-piece-test.false, ap length c.items-piece-items.ensures)) c.loop-piece.invariant.put c.enter.ensures.entered) c.requires.fits
+returns-clause-machine g c =
+    let i = c.loop-block.invariant in
+    record {
+      sound = loaded_sound (sys_of (λ b. (goal.SimObject-dyn g (b.vtable, b.value)).state b.value) c.args.self.now) (sys_of (λ b. (goal.SimObject-dyn g (b.vtable, b.value)).state b.value) c.loop-block.self) (sys_of (λ b. (goal.SimObject-dyn g (b.vtable, b.value)).state b.value) c.enter.new.self) _ _ c.args.image.now c.loop-block.blocks i.pieces i.put
+          (image_put (sys_of (λ b. (goal.SimObject-dyn g (b.vtable, b.value)).state b.value) c.args.self.now) (sys_of (λ b. (goal.SimObject-dyn g (b.vtable, b.value)).state b.value) c.loop-block.self) (sys_of (λ b. (goal.SimObject-dyn g (b.vtable, b.value)).state b.value) c.enter.new.self) c.args.image.now c.loop-block.blocks i.pieces i.put c.in_default.ensures.end c.enter.ensures.entered)
+          i.machine.sound c.enter.ensures.table c.requires.fits;
+    }

@@ -1,4 +1,7 @@
+use Rattle.std.proofs.Common.{map}
 use Rattle.std.proofs.lemmas.List.{length-map}
+use Rattle.gm_words.specs.Platform.{wires_of}
+use Rattle.gm_words.specs.Shown.{part_shown}
 use Rattle.kernel.proofs.Parts.{passed_shown, quick_passed}
 use Rattle.kernel.proofs.machine.Machine.pass_to.Goals as goal
 
@@ -6,8 +9,8 @@ pub returns-clause-passed : goal.returns-clause-passed
 returns-clause-passed g c =
     let e = c.pass_box-way.ensures in
     let old = c.args.self.now in
-    passed_shown _ old.parts.items c.args.server.0 c.index_mut.result.now (rw length-map at c.requires.ready.ready.there) c.index_mut.ensures.value
-    old.tick old.counters.since old.counters.counts old.draining old.router
+    passed_shown _ old.parts.items c.args.server.0 c.index_mut.result.now (rw length-map at c.requires.ready.ready.there) c.index_mut.ensures.value c.requires.ready.number
+    old.tick old.counters.since old.counters.counts old.draining (wires_of (map part_shown old.platform.items)) old.router
     c.args.packet.now old.out c.for_sender.new.self c.pass_box-way.new.out old.queue c.pass_box-way.new.q c.pass_box-way.new.part
     c.for_sender.ensures e.state e.events e.out
 

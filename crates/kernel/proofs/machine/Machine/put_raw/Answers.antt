@@ -1,5 +1,3 @@
-use Rattle.std.proofs.Common.{◌≡◌, ℕ, ◌+◌, ◌-◌, arith, subst}
-use Rattle.gm_model.specs.Start.{with_raw}
 use Rattle.kernel.proofs.Changes.{put_sound}
 use Rattle.kernel.proofs.SettledLemmas.{put_settled}
 use Rattle.kernel.proofs.machine.Machine.put_raw.Goals as goal

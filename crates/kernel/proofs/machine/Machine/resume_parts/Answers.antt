@@ -1,6 +1,11 @@
-use Rattle.std.proofs.Common.{arith, refl, sym, ap, ◌∙◌}
+use Rattle.std.proofs.Common.{arith, refl, sym, ap, map, ◌∙◌}
+use Rattle.std.proofs.lemmas.List.{length-map}
 use Rattle.gm_model.specs.Command.{resume_step}
-use Rattle.kernel.proofs.Changes.{from_start, still_rest, one_commanded, one_changed, handles_still}
+use Rattle.gm_words.specs.Platform.{wires_of}
+use Rattle.gm_words.specs.Shown.{part_shown}
+use Rattle.obj_core.specs.Out.{Out}
+use Rattle.probe_stats.specs.Counted.{Counted}
+use Rattle.kernel.proofs.Changes.{sys_same, all_commanded, all_changed, from_start, still_rest, one_commanded, one_changed, handles_still}
 use Rattle.kernel.proofs.machine.Machine.resume_parts.Goals as goal
 
 pub loop-i-init : goal.loop-i-init
@@ -9,6 +14,7 @@ loop-i-init g c = record {
   resumed = from_start (λ o. resume_step o c.args.self.now.tick) _;
   events = refl;
   len = refl;
+  platform = refl;
   table = refl;
   tick = refl;
   out = refl;
@@ -37,6 +43,7 @@ loop-i-preserved g c =
           (omega (arith, v.ok.0, i.len, c.len-i-end.ensures, c.loop-i-test.true)) c.index_mut.ensures.value i.rest (rw (sym i.tick) c.resume_box.ensures.state)
           c.loop-i.self.queue c.resume_box.new.q _ (rw (sym i.tick) c.resume_box.ensures.events) i.events;
       len = i.len;
+      platform = i.platform;
       table = ap (λ q. q.table) c.resume_box.ensures.events ∙ i.table;
       tick = i.tick;
       out = i.out;
@@ -44,3 +51,12 @@ loop-i-preserved g c =
       router = i.router;
       draining = i.draining;
     }
+
+pub returns-clause-resumed : goal.returns-clause-resumed
+returns-clause-resumed g c =
+    let i = c.loop-i.invariant in
+    let v = c.loop-i.self.parts in
+    sys_same _ _ i.tick (all_changed (λ o. resume_step o c.args.self.now.tick) c.loop-i.i _ _ _ (rw length-map (omega (arith, c.args.self.now.parts.ok.0, c.len-i-end.ensures, c.loop-i-test.false))) i.events)
+    (all_commanded _ (λ o. resume_step o c.args.self.now.tick) v.items c.loop-i.i _ (omega (arith, v.ok.0, i.len, c.len-i-end.ensures, c.loop-i-test.false)) i.resumed)
+    (ap (λ (o : Out). o.next) i.out) (ap (λ (k : Counted). k.counts) i.counters) (ap (λ (k : Counted). k.since) i.counters) refl i.draining
+    (ap (λ ps. wires_of (map part_shown ps.items)) i.platform) i.router

@@ -14,6 +14,7 @@ invariant-loop-i g l = record {
   events : commanded_events (λ o. resume_step o l.initial.self.tick) (drop l.i (map (λ b. (goal.SimObject-dyn g (b.vtable, b.value)).state b.value) l.initial.self.parts.items)) l.self.queue.pending
       ≡ commanded_events (λ o. resume_step o l.initial.self.tick) (map (λ b. (goal.SimObject-dyn g (b.vtable, b.value)).state b.value) l.initial.self.parts.items) l.initial.self.queue.pending;
   len : vec_len l.self.parts ≡ vec_len l.initial.self.parts;
+  platform : l.self.platform ≡ l.initial.self.platform;
   table : l.self.queue.table ≡ l.initial.self.queue.table;
   tick : l.self.tick ≡ l.initial.self.tick;
   out : l.self.out ≡ l.initial.self.out;

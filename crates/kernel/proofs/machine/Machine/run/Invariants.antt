@@ -2,7 +2,8 @@ use Rattle.std.proofs.Common.{◌≡◌, ℕ, ◌+◌, ◌<◌, ◌≤◌, None}
 use Rattle.gc_outside.specs.Told.{Told}
 use Rattle.gc_outside.specs.Sink.{Appends}
 use Rattle.gm_model.specs.Fire.{timed_run}
-use Rattle.gm_model.specs.Run.{reason_at, console_of}
+use Rattle.gm_model.specs.Run.{reason_at}
+use Rattle.gm_words.specs.Entries.{console_of}
 use Rattle.kernel.specs.Ends.{last_noted}
 use Rattle.kernel.specs.Shown.{sys_of, entries_of, IsMachine}
 use Rattle.kernel.proofs.machine.Machine.run.Given as goal

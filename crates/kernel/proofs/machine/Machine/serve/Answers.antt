@@ -1,6 +1,6 @@
 use Rattle.std.proofs.Common.{sym, subst}
 use Rattle.gm_model.specs.Deliver.{Delivery}
-use Rattle.gm_model.specs.declared.wake.Wake.TheVariants as wakes
+use Rattle.gm_words.specs.declared.wake.Wake.TheVariants as wakes
 use Rattle.kernel.specs.Ready.{IsReadyForWake}
 use Rattle.kernel.proofs.Delivered.{countable}
 use Rattle.kernel.proofs.machine.Machine.serve.Goals as goal

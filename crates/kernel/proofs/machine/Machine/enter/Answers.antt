@@ -1,0 +1,51 @@
+use Rattle.std.proofs.Common.{arith, refl, ap, map}
+use Rattle.gm_words.specs.Platform.{wires_of}
+use Rattle.gm_words.specs.Shown.{part_shown}
+use Rattle.obj_core.specs.Out.{Out}
+use Rattle.probe_stats.specs.Counted.{Counted}
+use Rattle.ev_queue.specs.Queue.{Queue}
+use Rattle.kernel.proofs.Changes.{sys_same, all_commanded, from_start, still_rest, one_commanded}
+use Rattle.kernel.proofs.Loops.{enter_command}
+use Rattle.kernel.proofs.machine.Machine.enter.Goals as goal
+
+pub loop-i-init : goal.loop-i-init
+loop-i-init g c = record {
+  rest = refl;
+  done = from_start (enter_command c.args.entry) _;
+  len = refl;
+  platform = refl;
+  queue = refl;
+  tick = refl;
+  out = refl;
+  counters = refl;
+  router = refl;
+  draining = refl;
+}
+
+pub loop-i-preserved : goal.loop-i-preserved
+loop-i-preserved g c =
+    let i = c.loop-i.invariant in
+    let v = c.loop-i.self.parts in
+    record {
+      rest = still_rest _ (enter_command c.args.entry) _ v.items c.loop-i.i c.index_mut.result.now c.enter_part.new.part
+          (omega (arith, v.ok.0, i.len, c.len-i-end.ensures, c.loop-i-test.true)) c.index_mut.ensures.value i.rest c.enter_part.ensures;
+      done = one_commanded _ (enter_command c.args.entry) _ v.items c.loop-i.i c.index_mut.result.now c.enter_part.new.part
+          (omega (arith, v.ok.0, i.len, c.len-i-end.ensures, c.loop-i-test.true)) c.index_mut.ensures.value i.rest c.enter_part.ensures _ i.done;
+      len = i.len;
+      platform = i.platform;
+      queue = i.queue;
+      tick = i.tick;
+      out = i.out;
+      counters = i.counters;
+      router = i.router;
+      draining = i.draining;
+    }
+
+pub returns-clause-entered : goal.returns-clause-entered
+returns-clause-entered g c =
+    let i = c.loop-i.invariant in
+    let v = c.loop-i.self.parts in
+    sys_same _ _ i.tick (ap (λ (q : Queue). q.pending) i.queue)
+    (all_commanded _ (enter_command c.args.entry) v.items c.loop-i.i _ (omega (arith, v.ok.0, i.len, c.len-i-end.ensures, c.loop-i-test.false)) i.done)
+    (ap (λ (o : Out). o.next) i.out) (ap (λ (k : Counted). k.counts) i.counters) (ap (λ (k : Counted). k.since) i.counters) refl i.draining
+    (ap (λ ps. wires_of (map part_shown ps.items)) i.platform) i.router

@@ -1,0 +1,20 @@
+use Rattle.std.proofs.Common.{◌≡◌, vec_len, map, drop}
+use Rattle.kernel.proofs.Changes.{commanded_from}
+use Rattle.kernel.proofs.Loops.{put_command}
+use Rattle.kernel.proofs.machine.Machine.write_ram.Given as goal
+
+-- the bytes were put into the parts before the place, and the others are as they were
+abbrev pub invariant-loop-i : goal.invariant-loop-i
+invariant-loop-i g l = record {
+  rest : drop l.i (map (λ b. (goal.SimObject-dyn g (b.vtable, b.value)).state b.value) l.self.parts.items) ≡ drop l.i (map (λ b. (goal.SimObject-dyn g (b.vtable, b.value)).state b.value) l.initial.self.parts.items);
+  done : commanded_from (put_command l.at l.from) l.i (map (λ b. (goal.SimObject-dyn g (b.vtable, b.value)).state b.value) l.self.parts.items)
+      ≡ map (λ o. (put_command l.at l.from o).state) (map (λ b. (goal.SimObject-dyn g (b.vtable, b.value)).state b.value) l.initial.self.parts.items);
+  len : vec_len l.self.parts ≡ vec_len l.initial.self.parts;
+  platform : l.self.platform ≡ l.initial.self.platform;
+  queue : l.self.queue ≡ l.initial.self.queue;
+  tick : l.self.tick ≡ l.initial.self.tick;
+  out : l.self.out ≡ l.initial.self.out;
+  counters : l.self.counters ≡ l.initial.self.counters;
+  router : l.self.router ≡ l.initial.self.router;
+  draining : l.self.draining ≡ l.initial.self.draining;
+}
