@@ -1,17 +1,18 @@
 -- From what a command comes to, to what its words do.
-use Rattle.std.proofs.Common.{◌≡◌, ◌≢◌, ◌==◌, ℕ, ◌⊎◌, inl, inr, List, [], ◌∷◌, ◌++◌, Option, Some, None, if◌then◌else◌, refl, sym, ap, ◌∙◌, subst}
+use Rattle.std.proofs.Common.{◌≡◌, ◌≢◌, ◌==◌, ℕ, inl, inr, false, List, [], ◌∷◌, ◌++◌, Option, Some, None, if◌then◌else◌, refl, sym, ap, ◌∙◌, subst}
+use Rattle.gc_outside.specs.Faults.{CountsFaultIf}
 use Rattle.gm_model.specs.ObjState.{ObjState}
 use Rattle.rv_asm.specs.declared.fault.AsmFault.{AsmFault}
 use Rattle.rv_asm.specs.declared.fault.AsmFault.TheVariants as sources
 use Rattle.session.specs.Calls.{FlatComesTo, RunComesTo, AssemblyComesTo, PutComesTo, ComesTo, EndsAs}
 use Rattle.session.specs.Codes.{code_of}
 use Rattle.session.specs.Emissions.{Emission}
-use Rattle.session.specs.Ending.{Ending, EndsBy, Leaves, Refuses, StopsWith, usage_refusal}
-use Rattle.session.specs.Inputs.{HasProgram, SourceStops}
+use Rattle.session.specs.Ending.{Ending, CountsFaults, EndsBy, Leaves, StopsBy, StoreCounts, is_store_failure, usage_refusal}
+use Rattle.session.specs.Inputs.{SourceStops}
 use Rattle.session.specs.Outside.{StoreSeen, SameStore, OnlyReads, SinkSeen, Sinks, Outside}
 use Rattle.session.specs.Puts.{ProgramPuts, AssemblyPuts, RequestPuts, Puts}
 use Rattle.session.specs.Refusals.{source_refusal}
-use Rattle.session.specs.Words.{FlatRequest, RunRequest, AssemblyRequest, Request, Flat, Machine, Assembly, flat_request, run_request, assembly_request, any_request, request_of}
+use Rattle.session.specs.Words.{FlatRequest, RunRequest, AssemblyRequest, Request, Flat, Machine, flat_request, run_request, assembly_request, any_request, request_of}
 use Rattle.session.specs.declared.status.Status.{Status}
 use Rattle.session.specs.declared.status.Status.TheVariants as status
 
@@ -50,9 +51,10 @@ module _ (words : List (List ℕ)) (parts : List ObjState) (s : Status) (old new
   unfolding EndsAs By
   ends-assembly q h k l ends = asked-last words By (Some q) h k l ends
 
-  pub ends-usage : flat_request words ≡ None → run_request words ≡ None → assembly_request words ≡ None → Leaves usage_refusal s old.sinks new.sinks → EndsAs s words parts old new
+  pub ends-usage : flat_request words ≡ None → run_request words ≡ None → assembly_request words ≡ None → new.store.faults ≡ old.store.faults
+      → Leaves usage_refusal s old.sinks new.sinks → EndsAs s words parts old new
   unfolding EndsAs By
-  ends-usage h k l leaves = asked-last words By None h k l (usage_refusal, refl, leaves)
+  ends-usage h k l same leaves = asked-last words By None h k l (usage_refusal, refl, same, leaves)
 
 -- a refused source is no work done
 source_not_done : (fault : AsmFault) → (source_refusal fault).status ≢ status.Done
@@ -108,13 +110,37 @@ module _ (words : List (List ℕ)) (s : Status) (old new : StoreSeen) where
   puts-run q h k reads = asked-run words Left q h k reads.same
 
   pub puts-assembly : (q : AssemblyRequest) (o n : SinkSeen) → flat_request words ≡ None → run_request words ≡ None → assembly_request words ≡ Some q
-      → StopsWith (AssemblyComesTo q old new) s o n → Puts s words old new
+      → StopsBy (AssemblyComesTo q) s old new o n → Puts s words old new
   unfolding Puts Left
-  puts-assembly q o n h k l ends = asked-last words Left (Some q) h k l (assembly_puts q s old new _ _ ends.0 ends.1 (ends.2 o))
+  puts-assembly q o n h k l ends = asked-last words Left (Some q) h k l (assembly_puts q s old new _ _ ends.0 ends.1 (ends.3 o))
 
   pub puts-nothing : flat_request words ≡ None → run_request words ≡ None → assembly_request words ≡ None → SameStore old new → Puts s words old new
   unfolding Puts Left
   puts-nothing h k l same = asked-last words Left None h k l same
+
+-- what a call counts that came to an ending
+by_status : (s : Status) (old new : StoreSeen) → CountsFaultIf (is_store_failure s) old.faults new.faults → StoreCounts s old new
+by_status status.Done old new h = h
+by_status status.Usage old new h = h
+by_status status.Config old new h = h
+by_status status.Image old new h = h
+by_status status.Script old new h = h
+by_status status.File old new h = h
+by_status status.Store old new h = h
+by_status status.Sink old new h = (false, h)
+by_status status.Memory old new h = h
+by_status status.Part old new h = h
+by_status status.Source old new h = h
+
+counts_left : (e : Ending) (s : Status) (old new : StoreSeen) (o n : Sinks) → CountsFaults e old new → Leaves e s o n → StoreCounts s old new
+counts_left e s old new o n counts (inl h) =
+    let P : Status → Type 0 = λ x. StoreCounts x old new in subst P (sym h.0) (by_status e.status old new counts)
+counts_left e s old new o n counts (inr h) =
+    let P : Status → Type 0 = λ x. StoreCounts x old new in subst P (sym h.0) (is_store_failure e.status, counts)
+
+pub ends-count : (s : Status) (words : List (List ℕ)) (parts : List ObjState) (old new : Outside) → EndsAs s words parts old new → StoreCounts s old.store new.store
+unfolding EndsAs
+ends-count s words parts old new ends = counts_left ends.0 s old.store new.store old.sinks new.sinks ends.2 ends.3
 
 -- the status of a number
 status_of : ℕ → Option Status

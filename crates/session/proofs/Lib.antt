@@ -1,5 +1,6 @@
 pub mod EmissionLemmas
 pub mod FetchLemmas
+pub mod CountLemmas
 pub mod CallLemmas
 pub mod RunLemmas
 pub mod StepLemmas

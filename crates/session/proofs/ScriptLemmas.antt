@@ -11,10 +11,11 @@ use Rattle.ev_queue.specs.declared.due.Due.{Due}
 use Rattle.ev_queue.specs.PendingList.{first}
 use Rattle.gm_model.specs.Sys.{Sys}
 use Rattle.gm_model.specs.Fire.{Ran, fire_first, fire_due, timed_run}
-use Rattle.gm_model.specs.Run.{RunEnd, EndsRun, run_to, retired_in, console_of}
-use Rattle.gm_model.specs.declared.entry.Entry.{Entry}
-use Rattle.gm_model.specs.declared.goal.Goal.{Goal}
-use Rattle.gm_model.proofs.ConsoleBytes.{console-append}
+use Rattle.gm_model.specs.Run.{RunEnd, EndsRun, run_to, retired_in}
+use Rattle.gm_words.specs.Entries.{console_of}
+use Rattle.gm_words.specs.declared.entry.Entry.{Entry}
+use Rattle.gm_words.specs.declared.goal.Goal.{Goal}
+use Rattle.gm_system.proofs.ForKernel.{console_more}
 use Rattle.gm_model.proofs.RunEnds.{runs_end, budget_ends}
 use Rattle.kernel.proofs.Runs.{events_more, stopped_bytes}
 use Rattle.kernel.specs.Ends.{StopsAtByte, TellsEnd, IsFaultOf}
@@ -77,7 +78,7 @@ stopped_front s g t noted a b h =
     let P : ℕ → Type 0 = λ n. (timed_run s n).entries ≡ (timed_run s k).entries ++ more.0 in
     let same : k + d ≡ (run_to s g).events = omega (arith, h.within) in
     let all : (run_to s g).ran.entries ≡ (timed_run s k).entries ++ more.0 = ap (λ r. r.entries) e.ran ∙ subst P same more.1 in
-    let bytes : console_of (run_to s g).ran.entries ≡ console_of (timed_run s k).entries ++ console_of more.0 = ap console_of all ∙ console-append (timed_run s k).entries more.0 in
+    let bytes : console_of (run_to s g).ran.entries ≡ console_of (timed_run s k).entries ++ console_of more.0 = ap console_of all ∙ console_more (timed_run s k).entries more.0 in
     let Q : List ℕ → Type 0 = λ xs. Told (AppendsFront xs) a b in
     subst Q (sym bytes) (told_front_of_more (console_of (timed_run s k).entries) (console_of more.0) a b (stopped_bytes s g t noted a b h))
 

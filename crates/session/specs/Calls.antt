@@ -4,7 +4,7 @@ use Rattle.cfg_tree.specs.declared.config.Config.{Config}
 use Rattle.elf_image.specs.Written.{elf_bytes}
 use Rattle.elf_image.specs.declared.image.Image.{Image}
 use Rattle.gm_model.specs.ObjState.{ObjState}
-use Rattle.gm_model.specs.declared.kind.Kind.{Kind}
+use Rattle.gm_words.specs.declared.kind.Kind.{Kind}
 use Rattle.kernel.specs.Build.{lacking}
 use Rattle.rv_step.specs.Run.{flat_run}
 use Rattle.session.specs.Ending.{Ending, work_done, usage_refusal, store_refusal, memory_refusal, EndsBy}

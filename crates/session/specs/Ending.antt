@@ -1,5 +1,6 @@
 -- How a call ends. Source: this project's own rule.
-use Rattle.std.specs.Prelude.{◌≡◌, ℕ, ◌⊎◌, List, [], ◌∷◌, ◌++◌, Result, Ok, Err, codes}
+use Rattle.std.specs.Prelude.{◌≡◌, ℕ, ◌⊎◌, Bool, true, false, List, [], ◌∷◌, ◌++◌, Result, Ok, Err, codes}
+use Rattle.gc_outside.specs.Faults.{CountsFaultIf}
 use Rattle.session.specs.Emissions.{Emission, ToReport, TakesAll, TakesFront, SinkFailed}
 use Rattle.session.specs.Names.{shown_name}
 use Rattle.session.specs.Outside.{SinkSeen, StoreSeen, Sinks, Outside}
@@ -39,6 +40,20 @@ store_refusal name = refusal status.Store (codes "store " ++ shown_name name ++ 
 abbrev pub memory_refusal : Ending
 memory_refusal = refusal status.Memory (codes "memory\n")
 
+-- the status of a store that failed
+abbrev pub is_store_failure : Status → Bool
+is_store_failure status.Store = true
+is_store_failure _ = false
+
+-- what the store counts on the way to this ending: exactly one fault where the ending is that it failed, and else none
+abbrev pub CountsFaults : Ending → StoreSeen → StoreSeen → Type 0
+CountsFaults e old new = CountsFaultIf (is_store_failure e.status) old.faults new.faults
+
+-- what it counts in a call that answers this status: one fault with its own, none or one where a sink failed, and else none
+abbrev pub StoreCounts : Status → StoreSeen → StoreSeen → Type 0
+StoreCounts status.Sink old new = (failed : Bool) × CountsFaultIf failed old.faults new.faults
+StoreCounts s old new = CountsFaultIf (is_store_failure s) old.faults new.faults
+
 -- a call that comes to this ending leaves this status and these sinks: its own status, and all that it writes was taken;
 -- or a sink failed, and a front of it was
 abbrev pub Leaves : Ending → Status → Sinks → Sinks → Type 0
@@ -55,9 +70,14 @@ Refuses e s old new = (console : SinkSeen)
 abbrev pub StopsWith : (Ending → Type 0) → Status → SinkSeen → SinkSeen → Type 0
 StopsWith Stops s old new = (e : Ending) × Stops e × Refuses e s old new
 
--- a call comes to one of the endings that are allowed by what the store was and is
+-- a step comes to one of the endings that are allowed by what the store was and is, with its count of faults, and says so
+abbrev pub StopsBy : (StoreSeen → StoreSeen → Ending → Type 0) → Status → StoreSeen → StoreSeen → SinkSeen → SinkSeen → Type 0
+StopsBy Stops s old new before after = (e : Ending) × Stops old new e × CountsFaults e old new × Refuses e s before after
+
+-- a call comes to one of the endings that are allowed by what the store was and is, with its count of faults
 abbrev pub EndsBy : (StoreSeen → StoreSeen → Ending → Type 0) → Status → Outside → Outside → Type 0
-EndsBy Comes s old new = (e : Ending) × Comes old.store new.store e × Leaves e s old.sinks new.sinks
+EndsBy Comes s old new =
+    (e : Ending) × Comes old.store new.store e × CountsFaults e old.store new.store × Leaves e s old.sinks new.sinks
 
 -- the status of a call
 abbrev pub status_of : Result (Unit {0}) Status → Status

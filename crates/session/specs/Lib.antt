@@ -23,7 +23,7 @@ pub use Rattle.elf_image.specs.Written
 pub use Rattle.rv_asm.specs.Source
 pub use Rattle.cfg_tree.specs.Valid
 pub use Rattle.gm_model.specs.ObjState
-pub use Rattle.gm_model.specs.Replay
+pub use Rattle.gm_words.specs.Replay
 pub use Rattle.gm_model.specs.Run as MachineRun
 pub use Rattle.gm_model.specs.Start
 pub use Rattle.gm_model.specs.View

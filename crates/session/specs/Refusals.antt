@@ -4,8 +4,8 @@ use Rattle.cfg_tree.specs.declared.fault.CfgFault.{CfgFault}
 use Rattle.cfg_tree.specs.declared.fault.CfgFault.TheVariants as configs
 use Rattle.elf_image.specs.declared.fault.ElfFault.{ElfFault}
 use Rattle.elf_image.specs.declared.fault.ElfFault.TheVariants as images
-use Rattle.gm_model.specs.Kind.{kind_name}
-use Rattle.gm_model.specs.declared.kind.Kind.{Kind}
+use Rattle.gm_words.specs.Kind.{kind_name}
+use Rattle.gm_words.specs.declared.kind.Kind.{Kind}
 use Rattle.rv_asm.specs.Faults.{kind_name as asm_kind_name}
 use Rattle.rv_asm.specs.declared.fault.AsmFault.{AsmFault}
 use Rattle.rv_asm.specs.declared.fault.AsmFault.TheVariants as sources

@@ -1,11 +1,12 @@
 -- What the events of a script note, against the instruction set over flat memory. Source: this project's own law.
 use Rattle.std.specs.Prelude.{◌≡◌, ℕ, false, All, List, [], Option, Some, None}
+use Rattle.cfg_tree.specs.Valid.{IsValidConfig}
 use Rattle.cfg_tree.specs.declared.config.Config.{Config}
 use Rattle.elf_image.specs.Image.{LiesInRam}
 use Rattle.elf_image.specs.declared.image.Image.{Image}
 use Rattle.gc_outside.specs.Store.{Files}
 use Rattle.gm_model.specs.ObjState.{ObjState}
-use Rattle.gm_model.specs.Replay.{replay}
+use Rattle.gm_words.specs.Replay.{replay}
 use Rattle.gm_model.specs.Sys.{Sys}
 use Rattle.gm_model.specs.View.{program_state}
 use Rattle.kernel.specs.Build.{lacking}
@@ -18,10 +19,10 @@ use Rattle.stop_script.specs.declared.stop.Stop.{Stop}
 abbrev pub IsReplayedFrom : Sys → Written → Type 0
 IsReplayedFrom start w = replay start.router.routes (program_state start []) w.history ≡ Some (program_state w.sys [])
 
--- so it is for each machine in atomic mode, with an image that lies in RAM, and each script
+-- so it is for each machine of a valid configuration in atomic mode, with an image that lies in RAM, and each script
 abbrev pub ScriptsAreReplayed : Type 0
 ScriptsAreReplayed =
-    (c : Config) (image : Image) (stops : List Stop) → c.system_model ≡ false → All (LiesInRam c.system_ram) image.pieces
+    (c : Config) (image : Image) (stops : List Stop) → IsValidConfig c → c.system_model ≡ false → All (LiesInRam c.system_ram) image.pieces
     → IsReplayedFrom (machine_start c image) (script_written c.system_budget (machine_start c image) stops)
 
 -- the words name a configuration, a script and an image in these files, and the parts make a machine

@@ -3,13 +3,14 @@ use Rattle.std.specs.Prelude.{ℕ, List, [], ◌∷◌, ◌++◌, codes, decimal
 use Rattle.elf_image.specs.Ram.{ram_of}
 use Rattle.elf_image.specs.declared.image.Image.{Image}
 use Rattle.cfg_tree.specs.declared.config.Config.{Config}
-use Rattle.gm_model.specs.Run.{RunEnd, run_to, retired_in, console_of}
+use Rattle.gm_model.specs.Run.{RunEnd, run_to, retired_in}
+use Rattle.gm_words.specs.Entries.{console_of}
 use Rattle.gm_model.specs.Start.{start_state, resumed_state}
 use Rattle.gm_model.specs.Sys.{Sys}
 use Rattle.gm_model.specs.View.{program_state}
-use Rattle.gm_model.specs.declared.entry.Entry.{Entry}
-use Rattle.gm_model.specs.declared.goal.Reason.{Reason}
-use Rattle.gm_model.specs.declared.goal.Reason.TheVariants as reasons
+use Rattle.gm_words.specs.declared.entry.Entry.{Entry}
+use Rattle.gm_words.specs.declared.goal.Reason.{Reason}
+use Rattle.gm_words.specs.declared.goal.Reason.TheVariants as reasons
 use Rattle.stop_script.specs.declared.stop.Stop.{Stop}
 use Rattle.stop_script.specs.declared.stop.Stop.TheVariants as stops
 use Rattle.session.specs.Emissions.{Emission, ToConsole, ToReport}

@@ -1,11 +1,11 @@
 // The words `asm SOURCE IMAGE`: a source is assembled, and the ELF file of its words is put.
-ghost use Rattle.std.specs.Prelude.{◌≡◌, ◌≤◌, ◌<◌, ◌-◌, ◌^◌, Some, None, length, IfOk, OnOk, OnErr, IfErr, Ok};
-ghost use Rattle.gc_outside.specs.Faults.{Rose};
+ghost use Rattle.std.specs.Prelude.{◌≡◌, ◌≤◌, ◌<◌, ◌-◌, ◌^◌, Some, None, length, IfOk, OnOk, OnErr, IfErr, is_err, Ok};
+ghost use Rattle.gc_outside.specs.Faults.{Rose, CountsFaultIf};
 ghost use Rattle.gc_outside.specs.Store.{ChangesFile};
 ghost use Rattle.gc_outside.specs.Told.{Told};
 ghost use Rattle.rv_asm.specs.Source.{Explains};
 ghost use Rattle.session.specs.Calls.{AssemblyComesTo, PutComesTo};
-ghost use Rattle.session.specs.Ending.{StopsWith, status_of};
+ghost use Rattle.session.specs.Ending.{StopsBy, status_of};
 ghost use Rattle.session.specs.Inputs.{HasProgram, SourceStops};
 ghost use Rattle.session.specs.Named.{assembly_named};
 ghost use Rattle.session.specs.Outside.{OnlyReads, sink_seen, store_seen};
@@ -59,6 +59,7 @@ fn put<S: Store>(name: &str, bytes: &[u8], store: &mut S) -> Result<(), Failed>
     ensures ended { S.open_put store.new ≡ None }
     ensures cause { OnErr result (Rose (S.faults store.old) (S.faults store.new)) }
     ensures count { S.faults store.old ≤ S.faults store.new }
+    ensures counted { CountsFaultIf (is_err result) (S.faults store.old) (S.faults store.new) }
 {
     store.begin_put(name)?;
     store.piece(bytes)?;
@@ -73,9 +74,9 @@ fn put_program<S: Store, R: Sink>(
     store: &mut S,
     report: &mut R,
 ) -> Result<(), Status>
-    ensures { StopsWith
-        (PutComesTo name.now program.now.words (store_seen S.Store store.old) (store_seen S.Store store.new))
-        (status_of result) (sink_seen R.Sink report.old) (sink_seen R.Sink report.new) }
+    ensures { StopsBy (PutComesTo name.now program.now.words) (status_of result)
+        (store_seen S.Store store.old) (store_seen S.Store store.new)
+        (sink_seen R.Sink report.old) (sink_seen R.Sink report.new) }
 {
     let file = match elf_image::write(alloc, program) {
         Ok(file) => file,
@@ -96,9 +97,10 @@ fn fetch_program<S: Store, R: Sink>(
 ) -> Result<Program, Status>
     ensures program { IfOk result (λ p. HasProgram name.now (S.files store.old) p.words) }
     ensures silent { OnOk result (report.new ≡ report.old) }
-    ensures stops { IfErr result (λ s. StopsWith
-        (SourceStops name.now (store_seen S.Store store.old) (store_seen S.Store store.new))
-        s (sink_seen R.Sink report.old) (sink_seen R.Sink report.new)) }
+    ensures faultless { OnOk result (S.faults store.new ≡ S.faults store.old) }
+    ensures stops { IfErr result (λ s. StopsBy (SourceStops name.now) s
+        (store_seen S.Store store.old) (store_seen S.Store store.new)
+        (sink_seen R.Sink report.old) (sink_seen R.Sink report.new)) }
     ensures reads { OnlyReads (store_seen S.Store store.old) (store_seen S.Store store.new) }
 {
     let source = fetch(alloc, name, SOURCE_BYTES_MAX, store, report)?;
@@ -115,9 +117,9 @@ pub(crate) fn assembly<S: Store, R: Sink>(
     store: &mut S,
     report: &mut R,
 ) -> Result<(), Status>
-    ensures { StopsWith
-        (AssemblyComesTo (assembly_named words.now) (store_seen S.Store store.old) (store_seen S.Store store.new))
-        (status_of result) (sink_seen R.Sink report.old) (sink_seen R.Sink report.new) }
+    ensures { StopsBy (AssemblyComesTo (assembly_named words.now)) (status_of result)
+        (store_seen S.Store store.old) (store_seen S.Store store.new)
+        (sink_seen R.Sink report.old) (sink_seen R.Sink report.new) }
 {
     let program = fetch_program(alloc, words.source, store, report)?;
     put_program(alloc, &program, words.image, store, report)

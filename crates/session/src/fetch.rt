@@ -1,7 +1,7 @@
 // Files that a call needs, and images in them.
 ghost use Rattle.std.specs.Prelude.{◌≡◌, ◌%◌, All, OnOk, IfOk, IfErr};
 ghost use Rattle.elf_image.specs.Image.{LiesInRam};
-ghost use Rattle.session.specs.Ending.{StopsWith};
+ghost use Rattle.session.specs.Ending.{StopsBy};
 ghost use Rattle.session.specs.Inputs.{HasImage, ImageStops};
 ghost use Rattle.session.specs.Outside.{OnlyReads, sink_seen, store_seen};
 ghost use Rattle.session.specs.Fetched.{FileStops, HasFile};
@@ -24,9 +24,10 @@ pub(crate) fn fetch<S: Store, R: Sink>(
 ) -> Result<Octets, Status>
     ensures file { IfOk result (HasFile name.now most (S.files store.old)) }
     ensures silent { OnOk result (report.new ≡ report.old) }
-    ensures stops { IfErr result (λ s. StopsWith
-        (FileStops name.now most (store_seen S.Store store.old) (store_seen S.Store store.new))
-        s (sink_seen R.Sink report.old) (sink_seen R.Sink report.new)) }
+    ensures faultless { OnOk result (S.faults store.new ≡ S.faults store.old) }
+    ensures stops { IfErr result (λ s. StopsBy (FileStops name.now most) s
+        (store_seen S.Store store.old) (store_seen S.Store store.new)
+        (sink_seen R.Sink report.old) (sink_seen R.Sink report.new)) }
     ensures reads { OnlyReads (store_seen S.Store store.old) (store_seen S.Store store.new) }
 {
     match store.get(alloc, name, most) {
@@ -50,9 +51,10 @@ pub(crate) fn fetch_image<S: Store, R: Sink>(
     ensures in_ram { IfOk result (λ image. All (LiesInRam ram) image.pieces) }
     ensures aligned { IfOk result (λ image. image.entry % 4 ≡ 0) }
     ensures silent { OnOk result (report.new ≡ report.old) }
-    ensures stops { IfErr result (λ s. StopsWith
-        (ImageStops name.now ram (store_seen S.Store store.old) (store_seen S.Store store.new))
-        s (sink_seen R.Sink report.old) (sink_seen R.Sink report.new)) }
+    ensures faultless { OnOk result (S.faults store.new ≡ S.faults store.old) }
+    ensures stops { IfErr result (λ s. StopsBy (ImageStops name.now ram) s
+        (store_seen S.Store store.old) (store_seen S.Store store.new)
+        (sink_seen R.Sink report.old) (sink_seen R.Sink report.new)) }
     ensures reads { OnlyReads (store_seen S.Store store.old) (store_seen S.Store store.new) }
 {
     let file = fetch(alloc, name, IMAGE_BYTES_MAX, store, report)?;

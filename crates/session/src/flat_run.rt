@@ -3,11 +3,12 @@ ghost use Rattle.std.specs.Prelude.{◌≡◌, ◌≤◌, ◌<◌, ◌+◌, ◌-
 ghost use Rattle.elf_image.specs.Image.{LiesInRam};
 ghost use Rattle.elf_image.specs.Ram.{with_piece};
 ghost use Rattle.rv_step.specs.Flat.{flat_step};
+ghost use Rattle.rv_step.specs.FlatMem.{zeroed};
 ghost use Rattle.rv_step.specs.Run.{is_over, next_state, flat_run, console_with};
 ghost use Rattle.gc_outside.specs.Emits.{Emits};
 ghost use Rattle.session.specs.Run.{state_with, flat_start};
 
-use elf_image::{Image, Piece};
+use elf_image::{Blocks, Image, Piece};
 use gc_base::NoMemory;
 use gc_outside::{Failed, Sink};
 use rv_step::{Arch, FlatEnd, FlatMem, step_flat};
@@ -34,28 +35,15 @@ fn exit_number(end: FlatEnd) -> Option<u32>
     }
 }
 
-/// Puts pieces into RAM, in order.
+/// Puts pieces into RAM that is zero, in order.
 fn load_pieces(ram: &mut FlatMem, pieces: &[Piece])
-    requires within { All (LiesInRam (length ram.old)) pieces.now }
-    requires size { length ram.old ≤ FLAT_SIZE }
-    ensures { ram.new ≡ fold with_piece ram.old pieces.now }
+    requires zero { ram.old ≡ zeroed FLAT_SIZE }
+    requires within { All (LiesInRam FLAT_SIZE) pieces.now }
+    ensures { ram.new ≡ fold with_piece (zeroed FLAT_SIZE) pieces.now }
 {
-    for piece in pieces {
-        load_piece(ram, piece);
-    }
-}
-
-/// Puts a piece into RAM, its zeros with it.
-fn load_piece(ram: &mut FlatMem, piece: &Piece)
-    requires within { LiesInRam (length ram.old) piece.now }
-    requires size { length ram.old ≤ FLAT_SIZE }
-    ensures loaded { ram.new ≡ with_piece ram.old piece.now }
-    ensures size { length ram.new ≡ length ram.old }
-{
-    let mut done = 0;
-    while let Some(block) = piece.block(done) {
-        ram.put(piece.addr + done, block);
-        done += block.len() as u64;
+    let mut blocks = Blocks::new(pieces);
+    while let Some(block) = blocks.next() {
+        ram.put(block.addr, block.bytes);
     }
 }
 

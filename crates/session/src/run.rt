@@ -7,7 +7,7 @@ ghost use Rattle.kernel.specs.Load.{IsAsBuilt};
 ghost use Rattle.kernel.specs.Shown.{sys_of, sys_seen, IsMachine, IsSeen};
 ghost use Rattle.session.specs.Calls.{BuildStops, RunComesTo};
 ghost use Rattle.session.specs.Emissions.{EmitsInOrder};
-ghost use Rattle.session.specs.Ending.{EndsBy, StopsWith, status_of};
+ghost use Rattle.session.specs.Ending.{EndsBy, StopsBy, StopsWith, status_of};
 ghost use Rattle.session.specs.Inputs.{HasConfig, ConfigStops, HasScript, ScriptStops};
 ghost use Rattle.session.specs.Named.{request_named};
 ghost use Rattle.session.specs.Outside.{OnlyReads, outside, sink_seen, sinks, store_seen};
@@ -37,9 +37,10 @@ fn fetch_config<S: Store, R: Sink>(
     ensures config { IfOk result (HasConfig name.now (S.files store.old)) }
     ensures valid { IfOk result IsValidConfig }
     ensures silent { OnOk result (report.new ≡ report.old) }
-    ensures stops { IfErr result (λ s. StopsWith
-        (ConfigStops name.now (store_seen S.Store store.old) (store_seen S.Store store.new))
-        s (sink_seen R.Sink report.old) (sink_seen R.Sink report.new)) }
+    ensures faultless { OnOk result (S.faults store.new ≡ S.faults store.old) }
+    ensures stops { IfErr result (λ s. StopsBy (ConfigStops name.now) s
+        (store_seen S.Store store.old) (store_seen S.Store store.new)
+        (sink_seen R.Sink report.old) (sink_seen R.Sink report.new)) }
     ensures reads { OnlyReads (store_seen S.Store store.old) (store_seen S.Store store.new) }
 {
     let text = fetch(alloc, name, CONFIG_BYTES_MAX, store, report)?;
@@ -59,9 +60,10 @@ fn fetch_script<S: Store, R: Sink>(
 ) -> Result<Script, Status>
     ensures script { IfOk result (λ script. HasScript name.now (S.files store.old) script.stops) }
     ensures silent { OnOk result (report.new ≡ report.old) }
-    ensures stops { IfErr result (λ s. StopsWith
-        (ScriptStops name.now (store_seen S.Store store.old) (store_seen S.Store store.new))
-        s (sink_seen R.Sink report.old) (sink_seen R.Sink report.new)) }
+    ensures faultless { OnOk result (S.faults store.new ≡ S.faults store.old) }
+    ensures stops { IfErr result (λ s. StopsBy (ScriptStops name.now) s
+        (store_seen S.Store store.old) (store_seen S.Store store.new)
+        (sink_seen R.Sink report.old) (sink_seen R.Sink report.new)) }
     ensures reads { OnlyReads (store_seen S.Store store.old) (store_seen S.Store store.new) }
 {
     let text = fetch(alloc, name, SCRIPT_BYTES_MAX, store, report)?;

@@ -72,7 +72,7 @@ fn run<C: Sink, R: Sink>(
     report: &mut R,
 ) -> Result<(), Failed>
     requires machine { IsSeen machine.old state }
-    requires events { (sys_seen machine.old state).counts.events + budget < 2 ^ 55 }
+    requires events { (sys_seen machine.old state).counts.events + budget < 2 ^ 54 }
     ensures sys { OnOk result
         (sys_seen machine.new state ≡ (stop_written budget (sys_seen machine.old state) (Run until)).sys) }
     ensures emitted { EmitsInOrder
@@ -97,7 +97,7 @@ fn stop<C: Sink, R: Sink>(
     report: &mut R,
 ) -> Result<(), Failed>
     requires machine { IsSeen machine.old state }
-    requires events { (sys_seen machine.old state).counts.events + budget < 2 ^ 55 }
+    requires events { (sys_seen machine.old state).counts.events + budget < 2 ^ 54 }
     ensures sys { OnOk result
         (sys_seen machine.new state ≡ (stop_written budget (sys_seen machine.old state) stop.now).sys) }
     ensures emitted { EmitsInOrder (stop_written budget (sys_seen machine.old state) stop.now).emissions (is_ok result)
@@ -121,7 +121,7 @@ pub(crate) fn carry_out<C: Sink, R: Sink>(
     report: &mut R,
 ) -> Result<(), Failed>
     requires machine { IsSeen machine.old state }
-    requires events { (sys_seen machine.old state).counts.events ≤ 2 ^ 54 }
+    requires events { (sys_seen machine.old state).counts.events ≤ 2 ^ 53 }
     requires budget { budget ≤ BUDGET_MAX }
     requires few { length stops.now ≤ 256 }
     ensures { EmitsInOrder (script_written budget (sys_seen machine.old state) stops.now).emissions (is_ok result)

@@ -3,7 +3,7 @@ ghost use Rattle.std.specs.Prelude.{◌≡◌, map, string_bytes};
 ghost use Rattle.kernel.specs.Build.{AreBlank};
 ghost use Rattle.session.specs.Calls.{EndsAs};
 ghost use Rattle.session.specs.Codes.{AnswersCall, code_of};
-ghost use Rattle.session.specs.Ending.{status_of};
+ghost use Rattle.session.specs.Ending.{StoreCounts, status_of};
 ghost use Rattle.session.specs.Outside.{outside, store_seen};
 ghost use Rattle.session.specs.Puts.{Puts};
 ghost use Rattle.session.specs.Replayed.{ReplaysScript};
@@ -77,6 +77,10 @@ pub fn gemcore<S: Store, C: Sink, R: Sink>(
     // What stands in the store then: as it did, but for the one file that `asm` puts.
     ensures puts { (s : Status) → result ≡ code_of s
         → Puts s (map string_bytes words.now) (store_seen S.Store store.old) (store_seen S.Store store.new) }
+
+    // What the store counted then: no failure of it is passed over, and none comes after another.
+    ensures counted { (s : Status) → result ≡ code_of s
+        → StoreCounts s (store_seen S.Store store.old) (store_seen S.Store store.new) }
 
     // Where the call carries out a script, what its events noted is the instruction set's over flat memory, from its
     // machine's start to its end.

@@ -12,19 +12,20 @@ pub returns-in_err-image-clause-ends : goal.returns-in_err-image-clause-ends
 returns-in_err-image-clause-ends g c =
     let p = err_from_is_err_and c.from_residual.result c.from_residual.ensures.1 in
     let h = c.in_err-image.ensures.stops in
-    rw (p.1, p.2) (h.0, inl h.1, h.2 (sink_seen g.C.Sink c.args.console.now))
+    rw (p.1, p.2) (h.0, inl h.1, h.2, h.3 (sink_seen g.C.Sink c.args.console.now))
 
 pub returns-in_err-run-clause-ends : goal.returns-in_err-run-clause-ends
 returns-in_err-run-clause-ends g c =
     let p = err_from_is_err_and c.from_residual-in_err-run.result c.from_residual-in_err-run.ensures.1 in
     let h = refuses_from _ _ _ _ _ (ap (sink_seen g.R.Sink) c.in_ok-image.ensures.silent) c.in_err-run.ensures.refused in
-    rw (p.1, p.2) (memory_refusal, inr (c.in_ok-image.image, c.in_ok-image.ensures.image, inl refl), h (sink_seen g.C.Sink c.args.console.now))
+    rw (p.1, p.2) (memory_refusal, inr (c.in_ok-image.image, c.in_ok-image.ensures.image, inl refl), c.in_ok-image.ensures.faultless, h (sink_seen g.C.Sink c.args.console.now))
 
 pub returns-in-Ok-clause-ends : goal.returns-in-Ok-clause-ends
 returns-in-Ok-clause-ends g c =
     let es = flat_emissions (flat_run (flat_start c.in_ok-image.image) c.args.words.now.count) in (
       work_done es,
       inr (c.in_ok-image.image, c.in_ok-image.ensures.image, inr refl),
+      c.in_ok-image.ensures.faultless,
       done_leaves es _ (sink_seen g.C.Sink c.args.console.now) _ _ _ (ap (λ s. flat_emissions (flat_run s c.args.words.now.count)) c.in_ok-run.ensures.loaded)
           (ap (sink_seen g.R.Sink) (c.in_ok-run.ensures.silent ∙ c.in_ok-image.ensures.silent)) c.in-Ok.ensures,
     )
@@ -34,6 +35,7 @@ returns-clause-ends g c =
     let es = flat_emissions (flat_run (flat_start c.in_ok-image.image) c.args.words.now.count) in (
       work_done es,
       inr (c.in_ok-image.image, c.in_ok-image.ensures.image, inr refl),
+      c.in_ok-image.ensures.faultless,
       cut_leaves es _ (sink_seen g.C.Sink c.args.console.now) _ _ _ (ap (λ s. flat_emissions (flat_run s c.args.words.now.count)) c.in_ok-run.ensures.loaded)
           (ap (sink_seen g.R.Sink) (c.in_ok-run.ensures.silent ∙ c.in_ok-image.ensures.silent)) c.in-Err.ensures,
     )

@@ -21,11 +21,11 @@ returns-in-Some-read-2-clause-puts g c = puts-assembly _ _ _ _ _ _ _ c.in_defaul
 pub returns-in-Some-read-2-clause-ends : goal.returns-in-Some-read-2-clause-ends
 returns-in-Some-read-2-clause-ends g c =
     let e = c.assembly.ensures in
-    ends-assembly _ _ _ _ _ _ c.in_default.ensures c.in_default-read.ensures c.in-Some-read-2.ensures (e.0, e.1, e.2 (sink_seen g.C.Sink c.args.console.now))
+    ends-assembly _ _ _ _ _ _ c.in_default.ensures c.in_default-read.ensures c.in-Some-read-2.ensures (e.0, e.1, e.2, e.3 (sink_seen g.C.Sink c.args.console.now))
 
 pub returns-clause-puts : goal.returns-clause-puts
 returns-clause-puts g c = puts-nothing _ _ _ _ c.in_default.ensures c.in_default-read.ensures c.in-None.ensures (record { files = refl; open_put = refl })
 
 pub returns-clause-ends : goal.returns-clause-ends
 returns-clause-ends g c =
-    ends-usage _ _ _ _ _ c.in_default.ensures c.in_default-read.ensures c.in-None.ensures (c.refuse.ensures (sink_seen g.C.Sink c.args.console.now))
+    ends-usage _ _ _ _ _ c.in_default.ensures c.in_default-read.ensures c.in-None.ensures refl (c.refuse.ensures (sink_seen g.C.Sink c.args.console.now))
