@@ -5,22 +5,15 @@ use Rattle.std.proofs.lemmas.Bool.Decides.{nat_tests}
 use Rattle.ev_queue.specs.declared.due.Due.{Due}
 use Rattle.ev_queue.specs.PendingList.{first}
 use Rattle.gm_model.specs.Sys.{Sys}
-use Rattle.gm_model.specs.ObjState.{ObjState, IsBlank}
 use Rattle.gm_model.specs.Fire.{fire_first, fire_due, timed_run}
 use Rattle.gm_model.specs.Run.{RunEnd, EndsRun, run_to, reason_at, reason_for, exit_reason, due_reason, late_reason, has_retired, is_late, exit_of, retired_in, last_tick}
-use Rattle.gm_model.specs.declared.goal.Goal.{Goal}
-use Rattle.gm_model.specs.declared.goal.Reason.{Reason}
-use Rattle.gm_model.specs.declared.goal.Reason.TheVariants as reasons
+use Rattle.gm_words.specs.declared.goal.Goal.{Goal}
+use Rattle.gm_words.specs.declared.goal.Reason.{Reason}
+use Rattle.gm_words.specs.declared.goal.Reason.TheVariants as reasons
 use Rattle.gm_model.proofs.RunEnds.{runs_end, budget_ends}
-use Rattle.kernel.specs.Build.{AreBlank}
 use Rattle.kernel.specs.Ends.{TellsEnd}
 use Rattle.kernel.specs.declared.run_end.RunEnd.{RunEnd as ToldEnd}
 use Rattle.kernel.proofs.Runs.{events_more}
-
--- a blank part more
-pub blank_more : {X : Type 0} (f : X → ObjState) (xs : List X) (x : X) → AreBlank (map f xs) → IsBlank (f x) → AreBlank (map f (xs ++ x ∷ []))
-blank_more f [] x h b = (b, tt)
-blank_more f (y ∷ ys) x h b = (h.0, blank_more f ys x h.1 b)
 
 -- an event counts one at most
 one_event : (s : Sys) → (fire_first s).sys.counts.events ≤ s.counts.events + 1
@@ -66,7 +59,7 @@ due_early g n None h = cc
 due_early g n (Some d) h = late_early g n d h
 
 limit_early : (g : Goal) (n insts : ℕ) (s : Sys) → reason_for g n insts s ≡ Some reasons.Limit → IsEarly (first s.pending)
-limit_early g n insts s h = by_exit (exit_of s.objects) h where
+limit_early g n insts s h = by_exit (exit_of s) h where
   by_insts : (b : Bool) → cond b (Some reasons.Insts) (due_reason g n (first s.pending)) ≡ Some reasons.Limit → IsEarly (first s.pending)
   by_insts true k = cc
   by_insts false k = due_early g n (first s.pending) k

@@ -5,7 +5,7 @@ ghost use Rattle.gc_base.specs.declared.limits.TheConstants.{TOP};
 ghost use Rattle.ev_queue.specs.PendingList.{first};
 ghost use Rattle.cfg_tree.specs.Valid.{IsValidConfig};
 ghost use Rattle.gm_model.specs.ObjState.{IsBlank};
-ghost use Rattle.gm_model.specs.declared.goal.Reason.{Reason};
+ghost use Rattle.gm_words.specs.declared.goal.Reason.{Reason};
 ghost use Rattle.kernel.specs.Build.{AreBlank};
 ghost use Rattle.kernel.specs.Shown.{sys_of, sys_seen, IsMachine, IsSeen};
 
@@ -16,13 +16,14 @@ use crate::call::tests::{
 use cfg_tree::Config;
 use cpu_atomic::AtomicCpu;
 use gc_base::{NoMemory, ObjId, PktId};
-use gm_model::platform::{ATOMIC_CPU, RAM_BASE, UART, UART_BASE};
+use gm_model::platform::{RAM_BASE, UART_BASE};
 use gm_model::{Entry, Goal, Kind, Reason, Until};
 use kernel::{BuildFault, Fired, Machine, RunEnd, RunFault};
 use obj_core::SimObject;
 use obj_counted::Counted;
 use obj_exit::ExitDev;
 use obj_mem::Mem;
+use obj_timer::Timer;
 use obj_uart::Uart;
 use session::gemcore;
 use std::alloc::Global;
@@ -30,6 +31,11 @@ use std::cell::Cell;
 use std::process::Abort;
 use std::rc::Rc;
 use std::test::Fail;
+
+// The numbers of the parts whose events are told: their places in the order of paths.
+const ATOMIC_CPU: ObjId = ObjId(0);
+
+const UART: ObjId = ObjId(4);
 
 /// How many events a run of these tests serves at most.
 const BUDGET: u64 = 1_000_000;
@@ -287,6 +293,11 @@ fn expect_counted(rt: &(impl Abort + AllocGlobal), cases: &[Counting]) -> Result
         keep(&mut parts, Box::new(rt.alloc(), part)?, case.left_out)?;
         let part = Counted::new(AtomicCpu::blank(), Rc::clone(&wakes)?);
         keep(&mut parts, Box::new(rt.alloc(), part)?, case.left_out)?;
+        keep(
+            &mut parts,
+            Box::new(rt.alloc(), Timer::blank())?,
+            case.left_out,
+        )?;
         expect_use(rt, case, parts)?;
         assert_eq!(rt; wakes.get(), case.wakes);
     }
@@ -410,7 +421,7 @@ macro_rules! lacking {
     };
 }
 
-static MISSING: [Counting; 7] = [
+static MISSING: [Counting; 8] = [
     BUILT,
     Counting {
         left_out: Some(Kind::AtomicCpu),
@@ -425,6 +436,11 @@ static MISSING: [Counting; 7] = [
     Counting {
         left_out: Some(Kind::Uart),
         used: lacking!(Kind::Uart),
+        ..BUILT
+    },
+    Counting {
+        left_out: Some(Kind::Timer),
+        used: lacking!(Kind::Timer),
         ..BUILT
     },
     Counting {

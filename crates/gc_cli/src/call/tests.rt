@@ -1,8 +1,8 @@
 // Whole calls of the program, in one table. The ticks are worked by hand from the latencies of the configuration.
-use super::call;
 use files::{COMPILED_FILE, LOOP_FILE, PROGRAM_FILE};
 use gc_base::NoMemory;
 use gc_outside::{MemSink, MemStore};
+use gc_program::call;
 use std::alloc::{AllocError, Global};
 use std::process::Abort;
 use std::str;

@@ -1,4 +1,4 @@
-use Rattle.gc_cli.proofs.RunLemmas.{blank_more}
+use Rattle.gc_program.proofs.Bins.{blank_more}
 use Rattle.gc_cli.proofs.machine_tests.keep.Goals as goal
 
 pub returns : goal.returns

@@ -32,7 +32,7 @@ latency = 200       # ticks in which the UART answers
 chartime = 1000     # ticks that sending one byte takes
 
 [timer]
-latency = 200       # ticks in which the timer answers, once it is built
+latency = 200       # ticks in which the timer answers
 period = 100        # ticks of one count of its clock
 
 [exit]
@@ -221,10 +221,85 @@ mepc 000000008000000c
 mcause 0000000000000002
 "##;
 
+/// `examples/timer.s`
+const TIMER_S: &str =
+    r##"# Counts down by the timer: sleeps, prints 3, 2 and 1, each at an interrupt, 1000 counts of the clock apart, and then a line feed,
+# and ends with exit number 0. It needs a machine: over flat memory there is no timer. Made into timer.elf by
+#
+#     bin/gemcore asm examples/timer.s examples/timer.elf
+#
+# The number of the second instruction says where the handler is: 0x38 bytes behind the first one.
+    auipc x5, 0             # this instruction's address
+    addi  x5, x5, 0x38      # the handler
+    csrrw x0, mtvec, x5
+    lui   x10, 0x10000      # the UART
+    lui   x11, 0x2004       # the timer's mtimecmp
+    addi  x12, x0, 51       # the character 3
+    addi  x13, x0, 48       # the character 0, behind the last one
+    addi  x14, x0, 1000     # the count of the clock at which the first interrupt comes
+    sd    x14, 0(x11)
+    addi  x6, x0, 128       # bit 7: interrupts by the timer
+    csrrw x0, mie, x6
+    csrrsi x0, mstatus, 8   # bit 3, MIE: interrupts are taken from here on
+sleep:
+    wfi
+    jal   x0, sleep
+    sb    x12, 0(x10)       # the handler
+    addi  x14, x14, 1000
+    sd    x14, 0(x11)       # the clock hasn't come to the new number, so the line falls
+    addi  x12, x12, -1
+    beq   x12, x13, done
+    mret
+done:
+    addi  x12, x0, 10       # a line feed
+    sb    x12, 0(x10)
+    lui   x15, 0x100        # the exit device
+    sw    x0, 0(x15)
+"##;
+
+/// `examples/timer.elf`
+const TIMER_ELF: &[u8] = b"\
+\x7f\x45\x4c\x46\x02\x01\x01\x00\x00\x00\x00\x00\x00\x00\x00\x00\
+\x02\x00\xf3\x00\x01\x00\x00\x00\x00\x00\x00\x80\x00\x00\x00\x00\
+\x40\x00\x00\x00\x00\x00\x00\x00\x00\x00\x00\x00\x00\x00\x00\x00\
+\x00\x00\x00\x00\x40\x00\x38\x00\x01\x00\x00\x00\x00\x00\x00\x00\
+\x01\x00\x00\x00\x07\x00\x00\x00\x78\x00\x00\x00\x00\x00\x00\x00\
+\x00\x00\x00\x80\x00\x00\x00\x00\x00\x00\x00\x80\x00\x00\x00\x00\
+\x60\x00\x00\x00\x00\x00\x00\x00\x60\x00\x00\x00\x00\x00\x00\x00\
+\x08\x00\x00\x00\x00\x00\x00\x00\x97\x02\x00\x00\x93\x82\x82\x03\
+\x73\x90\x52\x30\x37\x05\x00\x10\xb7\x45\x00\x02\x13\x06\x30\x03\
+\x93\x06\x00\x03\x13\x07\x80\x3e\x23\xb0\xe5\x00\x13\x03\x00\x08\
+\x73\x10\x43\x30\x73\x60\x04\x30\x73\x00\x50\x10\x6f\xf0\xdf\xff\
+\x23\x00\xc5\x00\x13\x07\x87\x3e\x23\xb0\xe5\x00\x13\x06\xf6\xff\
+\x63\x04\xd6\x00\x73\x00\x20\x30\x13\x06\xa0\x00\x23\x00\xc5\x00\
+\xb7\x07\x10\x00\x23\xa0\x07\x00";
+
+/// `examples/timer.report`
+const TIMER_REPORT: &str = r##"run exit 0 at 316800 insts 38 events 48
+pc 0000000080000060
+x5 0000000080000038
+x6 0000000000000080
+x10 0000000010000000
+x11 0000000002004000
+x12 000000000000000a
+x13 0000000000000030
+x14 0000000000000fa0
+x15 0000000000100000
+mstatus 0000000000001880
+mie 0000000000000080
+mtvec 0000000080000038
+mepc 0000000080000034
+mcause 8000000000000007
+"##;
+
+/// `examples/timer.console`
+const TIMER_CONSOLE: &[u8] = b"\
+\x33\x32\x31\x0a";
+
 /// The machine of the examples.
 const MACHINE: File = ("config", Text(MACHINE_TOML));
 
-static EXAMPLES: [Case; 5] = [
+static EXAMPLES: [Case; 6] = [
     Case {
         name: "hello",
         files: &[
@@ -282,6 +357,18 @@ static EXAMPLES: [Case; 5] = [
         ],
         report: TRAP_REPORT,
         left: &[("image", Some(TRAP_ELF))],
+        ..SILENT
+    },
+    Case {
+        name: "timer",
+        files: &[
+            MACHINE,
+            ("source", Text(TIMER_S)),
+            ("script", Text(HELLO_SCRIPT)),
+        ],
+        console: TIMER_CONSOLE,
+        report: TIMER_REPORT,
+        left: &[("image", Some(TIMER_ELF))],
         ..SILENT
     },
 ];

@@ -1,5 +1,5 @@
-use Rattle.gc_cli.proofs.RunLemmas.{blank_more}
-use Rattle.gc_cli.proofs.call.add.Goals as goal
+use Rattle.gc_program.proofs.Bins.{blank_more}
+use Rattle.gc_program.proofs.parts.add.Goals as goal
 
 pub returns : goal.returns
 returns g c = rw c.in_ok-push.ensures.items (blank_more _ _ _ c.requires.bin c.requires.part)

@@ -1,0 +1,8 @@
+//! The program once more, for a stored run beside that of `gc_cli`: this one runs the image over flat memory, which prints a byte and exits.
+#![tactic(auto)]
+
+use std::process::ExitCode;
+
+fn main(rt: HostRuntime) -> ExitCode {
+    ExitCode::from(gc_program::program(&rt, rt.stderr()))
+}
