@@ -31,6 +31,7 @@ EXAMPLES = [
     (FLAT, "hello", "hello", "hello.console", "hello.flat.report"),
     (None, "fibonacci", "hello", None, "fibonacci.report"),
     (None, "trap", "hello", None, "trap.report"),
+    (None, "timer", "hello", "timer.console", "timer.report"),
 ]
 
 

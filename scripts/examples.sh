@@ -32,6 +32,7 @@ expect examples/hello.console examples/steps.report run "$machine" examples/hell
 expect examples/hello.console examples/hello.flat.report flat examples/hello.elf 1000
 expect /dev/null examples/fibonacci.report run "$machine" examples/fibonacci.elf examples/hello.script
 expect /dev/null examples/trap.report run "$machine" examples/trap.elf examples/hello.script
+expect examples/timer.console examples/timer.report run "$machine" examples/timer.elf examples/hello.script
 python3 scripts/example_cases.py --check
 echo "the tests of gc_cli have the examples as they stand"
 
