@@ -8,7 +8,7 @@ use Rattle.rv_step.specs.Flat.{uart_base}
 use Rattle.gm_model.specs.ObjState.{Device, device_kind}
 use Rattle.gm_words.specs.Packet.{is_response, read_response, write_response, fault_response, carried_bytes, is_write}
 use Rattle.gm_words.specs.Platform.{slot_classes}
-use Rattle.gm_words.specs.Router.{Route, is_unmapped}
+use Rattle.gm_words.specs.Routes.{Route, is_unmapped}
 use Rattle.gm_model.specs.Serve.{Served, served, ignored, refused}
 use Rattle.gm_words.specs.Entries.{served_entries, console_of, entry_bytes}
 use Rattle.gm_words.specs.Changes.{Change, due_after}

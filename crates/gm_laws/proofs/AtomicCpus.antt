@@ -15,7 +15,7 @@ use Rattle.gm_words.specs.HartLine.{with_line, next_multiple}
 use Rattle.gm_model.specs.ObjState.{AtomicCpu, AtomicCpuState, CpuStage, Rest, AwaitFetch, AwaitData}
 use Rattle.gm_words.specs.Packet.{is_response}
 use Rattle.gm_words.specs.Platform.{is_in_ram}
-use Rattle.gm_words.specs.Router.{Route}
+use Rattle.gm_words.specs.Routes.{Route}
 use Rattle.gm_model.specs.Stepped.{Stepped, answering, stays}
 use Rattle.gm_words.specs.Moves.{Moves, no_moves}
 use Rattle.gm_words.specs.Changes.{Change, Schedule, due_after}

@@ -2,7 +2,7 @@
 use Rattle.std.proofs.Common.{◌≡◌, ℕ, ◌==◌, ◌&&◌, ◌||◌, refl, ap, arith, Bool, true, false, cond, List, Option, Some, None}
 use Rattle.std.specs.Option.{option_map}
 use Rattle.gm_words.specs.HartLine.{next_multiple}
-use Rattle.gm_words.specs.Router.{Route}
+use Rattle.gm_words.specs.Routes.{Route}
 use Rattle.gm_model.specs.AtomicCpu.{cpu_drained, cpu_resumed, is_resting, is_asleep, is_awake}
 use Rattle.gm_model.specs.Command.{drain_step, resume_step, with_input, with_own_bytes, own_bytes}
 use Rattle.gm_model.specs.Memory.{with_bytes_at}

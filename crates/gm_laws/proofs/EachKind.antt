@@ -2,7 +2,7 @@
 use Rattle.std.proofs.Common.{◌≡◌, ℕ, ◌≤◌, is_some, true, false, List, [], ◌∷◌, refl, arith, inl, Option, Some, None, option_map}
 use Rattle.rv_step.specs.declared.arch.Arch.{Arch}
 use Rattle.gm_words.specs.Moves.{no_moves}
-use Rattle.gm_words.specs.Router.{Route}
+use Rattle.gm_words.specs.Routes.{Route}
 use Rattle.gm_words.specs.declared.answer.Answer.TheVariants as answers
 use Rattle.gm_words.specs.declared.kind.Kind.{Kind}
 use Rattle.gm_words.specs.declared.kind.Kind.TheVariants as kinds

@@ -5,7 +5,7 @@ use Rattle.gc_base.specs.declared.ids.SlotNo.{SlotNo}
 use Rattle.gm_words.specs.Moves.{no_moves}
 use Rattle.gm_words.specs.Packet.{is_response, is_write_back}
 use Rattle.gm_words.specs.Platform.{is_within}
-use Rattle.gm_words.specs.Router.{Route}
+use Rattle.gm_words.specs.Routes.{Route}
 use Rattle.gm_words.specs.declared.answer.Answer.TheVariants as answers
 use Rattle.gm_words.specs.declared.packet.Packet.{Packet}
 use Rattle.gm_words.specs.declared.wake.Wake.{Wake}

@@ -8,7 +8,7 @@ use Rattle.rv_step.specs.Flat.{in_uart, in_exit, uart_base}
 use Rattle.gm_model.specs.ObjState.{Device, Memory, Uart, Exit, UartState, Timer}
 use Rattle.gm_words.specs.Packet.{is_response, read_response, write_response, carried_bytes, carried_number, is_write_back}
 use Rattle.gm_words.specs.Platform.{is_within}
-use Rattle.gm_words.specs.Router.{Route, is_unmapped}
+use Rattle.gm_words.specs.Routes.{Route, is_unmapped}
 use Rattle.gm_model.specs.Serve.{Served, served}
 use Rattle.gm_model.specs.Server.{serve, event_acts}
 use Rattle.gm_model.specs.Memory.{serve_memory}

@@ -9,7 +9,7 @@ use Rattle.gc_base.specs.declared.limits.TheConstants.{LAST}
 use Rattle.gm_words.specs.Changes.{due_after}
 use Rattle.gm_words.specs.Packet.{is_response, is_write_back, read_response, write_response, carried_number}
 use Rattle.gm_words.specs.Platform.{slot_classes}
-use Rattle.gm_words.specs.Router.{Route, is_unmapped}
+use Rattle.gm_words.specs.Routes.{Route, is_unmapped}
 use Rattle.gm_words.specs.declared.act.Act.TheVariants as acts
 use Rattle.gm_words.specs.declared.cmd.Cmd.{Cmd}
 use Rattle.gm_words.specs.declared.cmd.Cmd.TheVariants as cmds

@@ -1,7 +1,7 @@
 -- What weights say of packets: where the hart waits for one, all that the program sees of the packets under way is that one.
 use Rattle.std.proofs.Common.{◌≡◌, ℕ, ◌+◌, ◌≤◌, refl, sym, ◌∙◌, ap, subst, arith, Bool, true, false, not, cond, ◌&&◌, ◌==◌, zero, suc, List, [], ◌∷◌, ◌++◌, Option, Some, None}
 use Rattle.gm_words.specs.Packet.{is_response, carried_number, response_number}
-use Rattle.gm_words.specs.Router.{Route, is_unmapped}
+use Rattle.gm_words.specs.Routes.{Route, is_unmapped}
 use Rattle.gm_model.specs.View.{Mind, Doing, Boundary, Fetching, Decoded, Accessing, is_of_hart, awaited, progress_of}
 use Rattle.gm_words.specs.declared.packet.Packet.{Packet}
 use Rattle.gm_laws.specs.Words.{weigh, IsBlind}

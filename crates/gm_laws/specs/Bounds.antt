@@ -1,5 +1,5 @@
 -- How much a part may ask for, note and draw, and when its events come. This project's own laws.
-use Rattle.std.specs.Prelude.{◌≡◌, ℕ, ◌+◌, ◌^◌, ◌≤◌, ◌<◌, ◌==◌, max, if◌then◌else◌, List, [], ◌∷◌, length, slice_get, Some}
+use Rattle.std.specs.Prelude.{◌≡◌, ℕ, ◌+◌, ◌^◌, ◌≤◌, ◌<◌, ◌==◌, max, if◌then◌else◌, List, [], ◌∷◌, length, slice_get, Some, All}
 use Rattle.gc_base.specs.declared.limits.TheConstants.{LATENCY_MAX, PERIOD_MAX, LAST}
 use Rattle.gm_words.specs.Allowed.{MayPass, MayCome}
 use Rattle.gm_words.specs.Changes.{Change, Schedule, Remove}
@@ -12,8 +12,9 @@ use Rattle.gm_words.specs.declared.packet.Packet.{Packet}
 use Rattle.gm_words.specs.declared.wake.Wake.{Wake}
 use Rattle.gm_words.specs.declared.wake.Wake.TheVariants as wakes
 use Rattle.gm_model.specs.Deliver.{way_latency}
+use Rattle.gm_model.specs.View.{stage_packets, lane_packets, queued_packets}
 use Rattle.gm_laws.specs.Faces.{face_of}
-use Rattle.gm_model.specs.ObjState.{ObjState, Blank, AtomicCpu, Server, CpuStage, Rest, AwaitFetch, AwaitData, Device, Memory, Uart, Exit, Timer, object_of, slots_of}
+use Rattle.gm_model.specs.ObjState.{ObjState, Blank, AtomicCpu, TimingCpu, Xbar, Server, CpuStage, Rest, AwaitFetch, AwaitData, Device, Memory, Uart, Exit, Timer, object_of, slots_of}
 use Rattle.gm_model.specs.ObjectStep.{object_step, atomic_step}
 use Rattle.gm_model.specs.Stepped.{Stepped, Passed}
 
@@ -34,7 +35,9 @@ IsDeviceWithin (Timer t) = (1 ≤ t.period) × (t.period ≤ PERIOD_MAX)
 unfoldable pub IsWithin : ObjState → Type 0
 IsWithin (Blank k) = Unit {0}
 IsWithin (AtomicCpu s) = (1 ≤ s.period) × (s.period ≤ PERIOD_MAX) × IsStageWithin s.stage
-IsWithin (Server s) = (s.latency ≤ LATENCY_MAX) × IsDeviceWithin s.device
+IsWithin (TimingCpu s) = (1 ≤ s.period) × (s.period ≤ PERIOD_MAX) × All MayPass (stage_packets s.stage)
+IsWithin (Xbar s) = (s.latency ≤ LATENCY_MAX) × (length s.lanes ≡ length s.ports) × All MayPass (lane_packets (s.side.lane ∷ s.lanes))
+IsWithin (Server s) = (s.latency ≤ LATENCY_MAX) × IsDeviceWithin s.device × All MayPass (queued_packets s.flow.items)
 
 -- each change is to one of the part's slots, and schedules with the class of that slot
 abbrev pub AreOwnChanges : List ℕ → List Change → Type 0
@@ -90,6 +93,8 @@ stage_speech (AwaitData word latency) = 0
 unfoldable pub part_speech : ObjState → ℕ
 part_speech (Blank k) = 0
 part_speech (AtomicCpu s) = stage_speech s.stage
+part_speech (TimingCpu s) = 0
+part_speech (Xbar s) = 0
 part_speech (Server s) = 0
 
 -- an event begins it

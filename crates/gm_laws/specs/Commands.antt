@@ -3,7 +3,7 @@ use Rattle.std.specs.Prelude.{◌≡◌, ℕ, ◌+◌, ◌≤◌, true, false, L
 use Rattle.std.specs.Option.{option_map}
 use Rattle.rv_step.specs.Arch.{reset}
 use Rattle.gm_words.specs.Changes.{due_after}
-use Rattle.gm_words.specs.Router.{Route}
+use Rattle.gm_words.specs.Routes.{Route}
 use Rattle.gm_model.specs.Command.{drain_step, resume_step, is_drained, with_input, with_own_bytes, own_bytes}
 use Rattle.gm_model.specs.Memory.{with_bytes_at}
 use Rattle.gm_model.specs.ObjState.{ObjState, object_of, slots_of}

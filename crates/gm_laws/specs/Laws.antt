@@ -6,13 +6,14 @@ use Rattle.gm_words.specs.Changes.{Change, Schedule, Remove}
 use Rattle.gm_words.specs.Entries.{console_of}
 use Rattle.gm_words.specs.Moves.{AreDrawn}
 use Rattle.gm_words.specs.Packet.{is_response, is_write_back}
-use Rattle.gm_words.specs.Router.{Route}
+use Rattle.gm_words.specs.Routes.{Route}
 use Rattle.gm_words.specs.declared.act.Act.{Act}
 use Rattle.gm_words.specs.declared.act.Act.TheVariants as acts
 use Rattle.gm_words.specs.declared.answer.Answer.TheVariants as answers
 use Rattle.gm_words.specs.declared.packet.Packet.{Packet}
 use Rattle.gm_words.specs.declared.wake.Wake.{Wake}
 use Rattle.gm_words.specs.declared.wake.Wake.TheVariants as wakes
+use Rattle.gm_words.specs.declared.way.Way.{Way}
 use Rattle.gm_words.specs.declared.way.Way.TheVariants as ways
 use Rattle.gm_model.specs.ObjState.{ObjState, object_of, slots_of, latency_of}
 use Rattle.gm_model.specs.ObjectStep.{object_step, atomic_step}
@@ -27,6 +28,17 @@ use Rattle.gm_laws.specs.Program.{Serves, seen}
 abbrev pub WakesHold : Type 0
 WakesHold = (rs : List Route) (ram : ℕ) (o : ObjState) (next : ℕ) (w : Wake) (now : ℕ) → IsOk rs ram o → MayWake (face_of o) w
     → Keeps rs ram (face_of o) w (object_step o next w now)
+
+-- what a part owes that passes a packet on: it goes on from a port, and nothing else happens
+pub record GoesOn (f : Face) (o : ObjState) (x : Packet) (v : Passed) (port : ℕ) : Type 0 where
+  pub state : v.state ≡ o
+  pub changes : v.changes ≡ []
+  pub acts : v.acts ≡ []
+  pub entries : v.entries ≡ []
+  pub packet : v.packet ≡ x
+  pub passes : f.passes port ≡ true
+  pub sends : f.sends port x ≡ true
+  pub there : port < f.ports
 
 -- what a part owes that serves a packet, or refuses it by fault, at once
 pub record IsDone (rs : List Route) (ram : ℕ) (f : Face) (x : Packet) (v : Passed) : Type 0 where
@@ -47,7 +59,11 @@ pub record IsDone (rs : List Route) (ram : ℕ) (f : Face) (x : Packet) (v : Pas
   pub stays : f.memory ≡ None → (face_of v.state).memory ≡ None
   pub remains : (face_of v.state).memory ≡ None → f.memory ≡ None
 
--- every part serves a request that it admits
+abbrev pub WayKeeps : List Route → ℕ → Face → ObjState → Packet → Passed → Way → Type 0
+WayKeeps rs ram f o x v (ways.Pass port l) = GoesOn f o x v port.0
+WayKeeps rs ram f o x v (ways.Done l) = IsDone rs ram f x v
+
+-- a request that comes in at a port of a part and that it admits goes on, or is served
 abbrev pub PassesHold : Type 0
-PassesHold = (rs : List Route) (ram : ℕ) (o : ObjState) (x : Packet) (now : ℕ) → IsOk rs ram o → (face_of o).admits 0 x ≡ true
-    → is_response x.cmd ≡ false → is_write_back x.cmd ≡ false → IsDone rs ram (face_of o) x (atomic_step o x now)
+PassesHold = (rs : List Route) (ram : ℕ) (o : ObjState) (x : Packet) (now q : ℕ) → IsOk rs ram o → q < (face_of o).ports → (face_of o).admits q x ≡ true
+    → is_response x.cmd ≡ false → is_write_back x.cmd ≡ false → WayKeeps rs ram (face_of o) o x (atomic_step o x now) (atomic_step o x now).way

@@ -13,7 +13,7 @@ use Rattle.gm_words.specs.HartLine.{with_line, is_line}
 use Rattle.gm_words.specs.Packet.{carried_bytes, is_response, read_response, write_response}
 use Rattle.gm_words.specs.Platform.{is_in_ram}
 use Rattle.gm_words.specs.Replay.{same_bytes, asks_nothing}
-use Rattle.gm_words.specs.Router.{Route, is_unmapped}
+use Rattle.gm_words.specs.Routes.{Route, is_unmapped}
 use Rattle.gm_words.specs.Entries.{ram_bytes, served_entries}
 use Rattle.gm_words.specs.Moves.{Service, Moves}
 use Rattle.gm_model.specs.View.{Mind, Doing, Boundary, Fetching, Decoded, Accessing, is_of_hart}

@@ -1,8 +1,6 @@
 -- What one event causes: the acts of its wakes, delivered first in, first out. This project's own rule.
 use Rattle.std.specs.Prelude.{ℕ, zero, suc, ◌+◌, List, [], ◌∷◌, ◌++◌, map, Option, Some, None}
-use Rattle.gm_words.specs.Packet.{fault_response}
 use Rattle.gm_words.specs.Platform.{End}
-use Rattle.gm_words.specs.Router.{destination}
 use Rattle.gm_model.specs.Sys.{Sys, peer_in, step_at, woken, pass_at, passed, active_cpu}
 use Rattle.gm_words.specs.declared.act.Act.{Act}
 use Rattle.gm_words.specs.declared.act.Act.TheVariants as acts
@@ -72,11 +70,21 @@ deliver_passed d k x = record {
 abbrev pub done_at : Delivery → ℕ → Packet → ℕ → Delivery
 done_at d i x latency = record d { items = d.items ++ Done i x latency ∷ [] }
 
--- a packet of the sender i is passed to the server of its range; of no range, it is refused by fault
-abbrev pub deliver_atomic : Delivery → ℕ → Packet → Option ℕ → Delivery
-deliver_atomic d i x None = done_at d i (fault_response x x.cmd) d.sys.router.latency
-deliver_atomic d i x (Some k) =
-    done_at (deliver_passed d k x) i (pass_at d.sys k x).packet (d.sys.router.latency + way_latency (pass_at d.sys k x).way)
+-- the most parts that a packet is passed through
+abbrev pub passes_max : ℕ
+passes_max = 8
+
+-- by what became of it there: it goes on from a port, or it was served
+abbrev pub pass_way : (ℕ → ℕ → Delivery) → Delivery → ℕ → Packet → ℕ → Way → Delivery
+pass_way on e i y before (ways.Pass port latency) = on port.0 (before + latency)
+pass_way on e i y before (ways.Done latency) = done_at e i y (before + latency)
+
+-- a packet of the sender i is passed to the part k, and on from there, until it is served; `before` is how long its way took so far
+unfoldable pub deliver_atomic : ℕ → Delivery → ℕ → ℕ → Packet → ℕ → Delivery
+deliver_atomic zero d i k x before = done_at d i x before
+deliver_atomic (suc n) d i k x before =
+    pass_way (λ port total. deliver_atomic n (deliver_passed d k x) i (peer_in d.sys.wires k port).part (pass_at d.sys k x).packet total)
+    (deliver_passed d k x) i (pass_at d.sys k x).packet before (pass_at d.sys k x).way
 
 -- one act of the part i is delivered
 abbrev pub deliver_act : Delivery → ℕ → Act → Delivery
@@ -84,7 +92,7 @@ deliver_act d i (acts.Offer port x) = deliver_offer d i port.0 x (peer_in d.sys.
 deliver_act d i (acts.CallRetry port) =
     let e : End = peer_in d.sys.wires i port.0 in deliver_wake d e.part (wakes.Retry (record { 0 = e.port }))
 deliver_act d i (acts.SetLine bit level) = deliver_line d (wakes.Line bit level) (active_cpu d.sys.objects)
-deliver_act d i (acts.Atomic port x) = deliver_atomic d i x (destination d.sys.router.routes x.addr)
+deliver_act d i (acts.Atomic port x) = deliver_atomic passes_max d i (peer_in d.sys.ways i port.0).part x 0
 
 -- one item is delivered
 abbrev pub handle : Delivery → Item → Delivery

@@ -1,14 +1,20 @@
 -- Where packets are, and when a machine is drained. This project's own rules.
 use Rattle.std.specs.Prelude.{ℕ, ◌+◌, ◌==◌, ◌&&◌, Bool, true, false, List, [], ◌∷◌, ◌++◌, map}
 use Rattle.ev_queue.specs.declared.due.Due.{Due}
+use Rattle.gm_words.specs.Flow.{Lane}
 use Rattle.gm_words.specs.Platform.{own_slot}
-use Rattle.gm_model.specs.ObjState.{ObjState, Blank, AtomicCpu, Server, Device, Memory, Uart, Exit, Timer}
+use Rattle.gm_words.specs.declared.packet.Packet.{Packet}
+use Rattle.gm_model.specs.ObjState.{ObjState, Blank, AtomicCpu, TimingCpu, Xbar, Server, TimingStage, Between, Fetch, Ready, Data, Device, Memory, Uart, Exit, Timer}
 use Rattle.gm_model.specs.Command.{is_drained}
 use Rattle.gm_model.specs.Sys.{Sys, object_at}
+use Rattle.gm_model.specs.View.{queued_packets, stage_packets}
 
--- where a packet is: in the queue of a server
+-- where a packet is: in the queue of a server; in a layer of a crossbar, that of a port or that of no port; with a CPU, which offers it
 pub data Spot : Type 0 where
   InQueue : Spot
+  InLayer : (port : ℕ) → Spot
+  InSideLayer : Spot
+  InHand : Spot
 
 -- a packet's number, and where it is
 pub record PacketPlace : Type 0 where
@@ -16,11 +22,21 @@ pub record PacketPlace : Type 0 where
   pub object : ℕ
   pub spot : Spot
 
+abbrev pub places_at : ℕ → Spot → List Packet → List PacketPlace
+places_at i spot xs = map (λ x. record { packet = x.id.0; object = i; spot = spot }) xs
+
+-- the places of the packets in layers from a port on
+abbrev pub layer_places : ℕ → ℕ → List Lane → List PacketPlace
+layer_places i p [] = []
+layer_places i p (l ∷ ls) = places_at i (InLayer p) (queued_packets l.flow.items) ++ layer_places i (p + 1) ls
+
 -- the places of the packets in the object i
 abbrev pub places_in : ℕ → ObjState → List PacketPlace
 places_in i (Blank k) = []
 places_in i (AtomicCpu s) = []
-places_in i (Server s) = map (λ q. record { packet = q.packet.id.0; object = i; spot = InQueue }) s.flow.items
+places_in i (TimingCpu s) = places_at i InHand (stage_packets s.stage)
+places_in i (Xbar s) = places_at i InSideLayer (queued_packets s.side.lane.flow.items) ++ layer_places i 0 s.lanes
+places_in i (Server s) = places_at i InQueue (queued_packets s.flow.items)
 
 -- the places of the packets in the objects from a number on
 abbrev pub places_from : ℕ → List ObjState → List PacketPlace
@@ -35,6 +51,8 @@ packet_places s = places_from 0 s.objects
 abbrev pub is_device_event : ObjState → ℕ → Bool
 is_device_event (Blank k) slot = false
 is_device_event (AtomicCpu s) slot = false
+is_device_event (TimingCpu s) slot = false
+is_device_event (Xbar s) slot = false
 is_device_event (Server s) slot = has_own s.device && (slot == own_slot) where
   has_own : Device → Bool
   has_own (Memory m) = false

@@ -2,16 +2,16 @@
 use Rattle.std.specs.Prelude.{ℕ, zero, suc, List, [], ◌∷◌, slice_get, Option, Some, None}
 use Rattle.ev_queue.specs.declared.due.Due.{Due}
 use Rattle.gm_words.specs.Moves.{Moves, no_moves, joined}
-use Rattle.gm_words.specs.Packet.{fault_response}
 use Rattle.gm_words.specs.Platform.{End}
-use Rattle.gm_words.specs.Router.{destination}
+use Rattle.gm_words.specs.declared.way.Way.{Way}
+use Rattle.gm_words.specs.declared.way.Way.TheVariants as ways
 use Rattle.gm_words.specs.declared.act.Act.{Act}
 use Rattle.gm_words.specs.declared.act.Act.TheVariants as acts
 use Rattle.gm_words.specs.declared.packet.Packet.{Packet}
 use Rattle.gm_words.specs.declared.wake.Wake.{Wake}
 use Rattle.gm_words.specs.declared.wake.Wake.TheVariants as wakes
-use Rattle.gm_model.specs.Sys.{Sys, peer_in, step_at, woken, pass_at, active_cpu}
-use Rattle.gm_model.specs.Deliver.{Item, Sent, Done, Delivery, deliver_first, items_max, told_wake}
+use Rattle.gm_model.specs.Sys.{Sys, peer_in, step_at, woken, pass_at, passed, active_cpu}
+use Rattle.gm_model.specs.Deliver.{Item, Sent, Done, Delivery, deliver_first, items_max, passes_max, told_wake}
 use Rattle.gm_model.specs.Fire.{event_begun, taken_out}
 
 -- an offer: those of the peer, and of the sender that is told its answer
@@ -25,10 +25,15 @@ abbrev pub line_moves : Sys → Wake → Option ℕ → Moves
 line_moves s w None = no_moves
 line_moves s w (Some cpu) = (step_at s cpu w).moves
 
--- a request that is passed at once is served, or refused by fault
-abbrev pub atomic_moves : Sys → Packet → Option ℕ → Moves
-atomic_moves s x None = record no_moves { served = record { request = x; response = fault_response x x.cmd } ∷ [] }
-atomic_moves s x (Some server) = record no_moves { served = record { request = x; response = (pass_at s server x).packet } ∷ [] }
+-- a request that is passed at once, from part to part, is served, or refused by fault
+abbrev pub pass_moves : (ℕ → Moves) → Packet → Packet → Way → Moves
+pass_moves on x y (ways.Pass port latency) = on port.0
+pass_moves on x y (ways.Done latency) = record no_moves { served = record { request = x; response = y } ∷ [] }
+
+unfoldable pub atomic_moves : ℕ → Sys → ℕ → Packet → Moves
+atomic_moves zero s k x = no_moves
+atomic_moves (suc n) s k x =
+    pass_moves (λ port. atomic_moves n (passed s k x) (peer_in s.wires k port).part (pass_at s k x).packet) x (pass_at s k x).packet (pass_at s k x).way
 
 -- an act of the part i
 abbrev pub act_moves : Sys → ℕ → Act → Moves
@@ -36,7 +41,7 @@ act_moves s i (acts.Offer port x) = offer_moves s i port.0 x (peer_in s.wires i 
 act_moves s i (acts.CallRetry port) =
     let e : End = peer_in s.wires i port.0 in (step_at s e.part (wakes.Retry (record { 0 = e.port }))).moves
 act_moves s i (acts.SetLine bit level) = line_moves s (wakes.Line bit level) (active_cpu s.objects)
-act_moves s i (acts.Atomic port x) = atomic_moves s x (destination s.router.routes x.addr)
+act_moves s i (acts.Atomic port x) = atomic_moves passes_max s (peer_in s.ways i port.0).part x
 
 -- one item
 abbrev pub item_moves : Sys → Item → Moves

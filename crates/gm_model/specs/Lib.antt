@@ -1,13 +1,16 @@
 pub mod ObjState
 pub mod Stepped
 pub mod Accesses
+pub mod Flows
 pub mod AtomicCpu
+pub mod TimingCpu
 pub mod Serve
 pub mod Memory
 pub mod Uart
 pub mod ExitDevice
 pub mod Timer
 pub mod Server
+pub mod Xbar
 pub mod ObjectStep
 pub mod Command
 pub mod Sys

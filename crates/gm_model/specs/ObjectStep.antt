@@ -5,9 +5,11 @@ use Rattle.gm_words.specs.declared.packet.Packet.{Packet}
 use Rattle.gm_words.specs.declared.wake.Wake.{Wake}
 use Rattle.gm_words.specs.declared.wake.Wake.TheVariants as wakes
 use Rattle.gm_words.specs.declared.way.Way.TheVariants as ways
-use Rattle.gm_model.specs.ObjState.{ObjState, Blank, AtomicCpu, Server}
+use Rattle.gm_model.specs.ObjState.{ObjState, Blank, AtomicCpu, TimingCpu, Xbar, Server}
 use Rattle.gm_model.specs.Stepped.{Stepped, Passed, stays, drops}
 use Rattle.gm_model.specs.AtomicCpu.{atomic_cpu_step}
+use Rattle.gm_model.specs.TimingCpu.{timing_cpu_step}
+use Rattle.gm_model.specs.Xbar.{xbar_step, xbar_atomic}
 use Rattle.gm_model.specs.Server.{server_step, server_atomic, functional_read}
 
 -- a part that isn't configured does nothing with what comes
@@ -24,7 +26,9 @@ blank_step s next (wakes.AtomicDone p latency) = drops s next p
 unfoldable pub object_step : ObjState → ℕ → Wake → ℕ → Stepped
 object_step (Blank k) next w now = blank_step (Blank k) next w
 object_step (AtomicCpu s) next w now = atomic_cpu_step s next w now
-object_step (Server s) next w now = server_step s next w
+object_step (TimingCpu s) next w now = timing_cpu_step s next w now
+object_step (Xbar s) next w now = xbar_step s next w now
+object_step (Server s) next w now = server_step s next w now
 
 -- the packet is nobody's here
 abbrev pub not_passed : ObjState → Packet → Passed
@@ -34,10 +38,14 @@ not_passed s p = record { state = s; packet = p; changes = []; acts = []; entrie
 unfoldable pub atomic_step : ObjState → Packet → ℕ → Passed
 atomic_step (Blank k) p now = not_passed (Blank k) p
 atomic_step (AtomicCpu s) p now = not_passed (AtomicCpu s) p
+atomic_step (TimingCpu s) p now = not_passed (TimingCpu s) p
+atomic_step (Xbar s) p now = xbar_atomic s p
 atomic_step (Server s) p now = server_atomic s p now
 
 -- what becomes of a read that is passed to a part without time: only memory answers it
 abbrev pub functional_step : ObjState → Packet → Packet
 functional_step (Blank k) p = p
 functional_step (AtomicCpu s) p = p
+functional_step (TimingCpu s) p = p
+functional_step (Xbar s) p = p
 functional_step (Server s) p = functional_read s p s.device

@@ -6,7 +6,7 @@ use Rattle.gm_model.specs.Command.{exit_code}
 use Rattle.gm_model.specs.Sys.{Sys, object_at}
 use Rattle.gm_model.specs.Fire.{Ran, not_begun, one_more, timed_run}
 use Rattle.rv_step.specs.Flat.{exit_base}
-use Rattle.gm_words.specs.Router.{destination}
+use Rattle.gm_words.specs.Routes.{destination}
 use Rattle.gm_words.specs.declared.entry.Entry.{Entry}
 use Rattle.gm_words.specs.declared.entry.Entry.TheVariants as entries
 use Rattle.gm_words.specs.declared.goal.Goal.{Goal}
@@ -39,7 +39,7 @@ code_at s None = None
 code_at s (Some k) = exit_code (object_at s k)
 
 abbrev pub exit_of : Sys → Option ℕ
-exit_of s = code_at s (destination s.router.routes exit_base)
+exit_of s = code_at s (destination s.routes exit_base)
 
 -- as many instructions have retired as were asked for
 abbrev pub has_retired : Until → ℕ → Bool

@@ -1,18 +1,21 @@
--- The servers: a queue of requests and a device that serves them. This project's own rules.
--- In atomic mode a server serves a packet at once, and has no event but its device's own. What it does with offers comes
--- with the timing mode.
-use Rattle.std.specs.Prelude.{ℕ, ◌==◌, ◌&&◌, Bool, true, false, not, if◌then◌else◌, List, [], ◌∷◌, Option, Some, None}
+-- The servers: a queue of requests and a device that serves them, one after another, each after a latency. This project's own rules.
+use Rattle.std.specs.Prelude.{ℕ, ◌+◌, ◌==◌, ◌&&◌, Bool, true, false, not, if◌then◌else◌, List, [], ◌∷◌, ◌++◌, Option, Some, None}
 use Rattle.rv_step.specs.FlatMem.{in_ram}
 use Rattle.rv_step.specs.Flat.{in_uart, in_exit}
-use Rattle.gm_words.specs.Flow.{Queued, quiet_flow}
-use Rattle.gm_words.specs.Packet.{read_response}
-use Rattle.gm_words.specs.Platform.{own_slot}
+use Rattle.gm_words.specs.Flow.{Queued, OutState, Lane, quiet_flow}
+use Rattle.gm_words.specs.Moves.{Moves, no_moves}
+use Rattle.gm_words.specs.Packet.{read_response, is_write_back}
+use Rattle.gm_words.specs.Platform.{serve_slot, serve_port, own_slot, device_class}
 use Rattle.gm_words.specs.declared.act.Act.{Act}
+use Rattle.gm_words.specs.declared.answer.Answer.{Answer}
+use Rattle.gm_words.specs.declared.answer.Answer.TheVariants as answers
+use Rattle.gm_words.specs.declared.entry.Entry.{Entry}
 use Rattle.gm_words.specs.declared.packet.Packet.{Packet}
 use Rattle.gm_words.specs.declared.params.Params.{Params}
 use Rattle.gm_words.specs.declared.wake.Wake.{Wake}
 use Rattle.gm_words.specs.declared.wake.Wake.TheVariants as wakes
 use Rattle.gm_words.specs.declared.way.Way.TheVariants as ways
+use Rattle.gm_model.specs.Flows.{Outlet, LaneMoved, ask_in, hold_in, again_in, gone_in, moved, opened, has_room, taken_in, is_some_port, answer_of, refusal_of}
 use Rattle.gm_model.specs.ObjState.{ObjState, Server, ServerState, Device, Memory, Uart, Exit, Timer, common_start}
 use Rattle.gm_model.specs.Serve.{Served}
 use Rattle.gm_model.specs.Memory.{serve_memory, memory_bytes, queued_bytes, with_bytes_at}
@@ -92,21 +95,81 @@ server_start p latency places d = Server (record {
   device = d;
 })
 
+-- The queue.
+
+-- its one outlet
+abbrev pub server_outlet : Outlet
+server_outlet = record { port = serve_port; slot = serve_slot; class = device_class }
+
+-- its queue as a lane, in whose list its port stands where a requestor waits
+abbrev pub waiting_of : Bool → List ℕ
+waiting_of false = []
+waiting_of true = 0 ∷ []
+
+abbrev pub server_lane : ServerState → Lane
+server_lane s = record { flow = s.flow; waiting = waiting_of s.waiter }
+
+-- the server after a step of its lane
+abbrev pub server_with : ServerState → ℕ → Answer → List Entry → Moves → LaneMoved → Stepped
+server_with s next answer es moves m = record {
+  state = Server (record s { flow = m.lane.flow; waiter = is_some_port m.lane.waiting });
+  next = next;
+  changes = m.changes;
+  acts = m.acts;
+  entries = es;
+  answer = answer;
+  moves = moves;
+}
+
 -- Wakes.
 
 -- the event of the device's own slot
 abbrev pub server_event : ServerState → ℕ → Device → Stepped
 server_event s next d = record (stays (Server (record s { device = device_after_event d })) next) { acts = event_acts d }
 
+-- the first request was served: a write-back is gone, which has no response
+abbrev pub server_absorbs : ServerState → ℕ → ℕ → Queued → List Queued → Served → Stepped
+server_absorbs s next now x xs r =
+    let m : LaneMoved = opened s.places (gone_in server_outlet (now + s.latency) (x ∷ xs)) (waiting_of s.waiter) in
+    server_with (record s { device = r.device }) next answers.Nothing r.entries (record no_moves { absorbed = x.packet ∷ [] })
+    (record m { changes = r.changes ++ m.changes; acts = r.acts ++ m.acts })
+
+-- another's response is offered, behind what the device asks for
+abbrev pub server_answers : ServerState → ℕ → Queued → List Queued → OutState → Served → Stepped
+server_answers s next x xs out r =
+    let m : LaneMoved = moved (server_lane s) (ask_in serve_port (record { packet = r.response; ready = x.ready } ∷ xs) out) in
+    server_with (record s { device = r.device }) next answers.Nothing r.entries
+    (record no_moves { served = record { request = x.packet; response = r.response } ∷ [] })
+    (record m { changes = r.changes ++ m.changes; acts = r.acts ++ m.acts })
+
+abbrev pub server_served : ServerState → ℕ → ℕ → Queued → List Queued → OutState → Served → Bool → Stepped
+server_served s next now x xs out r true = server_absorbs s next now x xs r
+server_served s next now x xs out r false = server_answers s next x xs out r
+
+-- at its event the first request is served
+abbrev pub server_serves : ServerState → ℕ → ℕ → List Queued → OutState → Stepped
+server_serves s next now [] out = stays (Server s) next
+server_serves s next now (x ∷ xs) out = server_served s next now x xs out (serve s.device x.packet now) (is_write_back x.packet.cmd)
+
 -- the step rule
-abbrev pub server_step : ServerState → ℕ → Wake → Stepped
-server_step s next (wakes.Event slot) = if slot.0 == own_slot then server_event s next s.device else stays (Server s) next
-server_step s next (wakes.Offer port p) = drops (Server s) next p
-server_step s next (wakes.Taken port) = stays (Server s) next
-server_step s next (wakes.Refused port) = stays (Server s) next
-server_step s next (wakes.Retry port) = stays (Server s) next
-server_step s next (wakes.Line bit level) = stays (Server s) next
-server_step s next (wakes.AtomicDone p latency) = drops (Server s) next p
+abbrev pub server_step : ServerState → ℕ → Wake → ℕ → Stepped
+server_step s next (wakes.Event slot) now =
+    if slot.0 == serve_slot then server_serves s next now s.flow.items s.flow.out
+    else if slot.0 == own_slot then server_event s next s.device
+    else stays (Server s) next
+server_step s next (wakes.Offer port p) now =
+    let room : Bool = has_room s.places (server_lane s) in
+    server_with s next (answer_of room) (refusal_of s.common.object room) no_moves
+    (taken_in server_outlet (server_lane s) serve_port p (now + s.latency) room)
+server_step s next (wakes.Taken port) now =
+    server_with s next answers.Nothing [] no_moves
+    (opened s.places (gone_in server_outlet (now + s.latency) s.flow.items) (waiting_of s.waiter))
+server_step s next (wakes.Refused port) now =
+    server_with s next answers.Nothing [] no_moves (moved (server_lane s) (hold_in s.flow.items s.flow.out))
+server_step s next (wakes.Retry port) now =
+    server_with s next answers.Nothing [] no_moves (moved (server_lane s) (again_in serve_port s.flow.items s.flow.out))
+server_step s next (wakes.Line bit level) now = stays (Server s) next
+server_step s next (wakes.AtomicDone p latency) now = drops (Server s) next p
 
 -- Packets at once.
 

@@ -1,17 +1,19 @@
 -- How a machine begins: built, loaded with an image, resumed. This project's own rules.
-use Rattle.std.specs.Prelude.{ℕ, ◌+◌, ◌-◌, Bool, true, false, List, [], ◌∷◌, ◌++◌, length, map, replicate, Some}
+use Rattle.std.specs.Prelude.{ℕ, ◌+◌, ◌-◌, Bool, true, false, not, if◌then◌else◌, List, [], ◌∷◌, ◌++◌, length, map, replicate, Some}
 use Rattle.ev_queue.specs.declared.due.Due.{Due}
 use Rattle.rv_step.specs.Arch.{reset}
 use Rattle.rv_step.specs.FlatMem.{ram_base}
-use Rattle.gm_words.specs.Platform.{Part, platform, wires_of}
-use Rattle.gm_words.specs.Router.{router_of}
+use Rattle.gm_words.specs.Platform.{Part, platform, wires_of, ways_of}
+use Rattle.gm_words.specs.Routes.{routes_of}
 use Rattle.gm_words.specs.Counts.{no_counts}
-use Rattle.gm_model.specs.ObjState.{ObjState, object_of}
+use Rattle.gm_model.specs.ObjState.{ObjState, object_of, kind_of}
 use Rattle.gm_words.specs.Changes.{changed}
 use Rattle.gm_model.specs.Stepped.{Commanded}
-use Rattle.gm_model.specs.Command.{start_of, with_own_bytes, with_arch, drain_step, resume_step}
+use Rattle.gm_model.specs.Command.{start_of, with_own_bytes, with_arch, with_mode, drain_step, resume_step}
 use Rattle.gm_model.specs.Sys.{Sys}
 use Rattle.cfg_tree.specs.declared.config.Config.{Config}
+use Rattle.gm_words.specs.declared.kind.Kind.{Kind}
+use Rattle.gm_words.specs.declared.kind.Kind.TheVariants as kinds
 use Rattle.gm_words.specs.declared.own.Own.{Own}
 use Rattle.gm_words.specs.declared.params.Params.{Params}
 
@@ -28,10 +30,21 @@ abbrev pub built_objects : Config → ℕ → List Part → List ObjState
 built_objects c i [] = []
 built_objects c i (p ∷ ps) = built_object c i p ∷ built_objects c (i + 1) ps
 
--- the hart is reset in the CPU of the configured mode
+-- the part is the CPU of the mode
+abbrev pub is_cpu_of : Bool → Kind → Bool
+is_cpu_of timing kinds.AtomicCpu = not timing
+is_cpu_of timing kinds.TimingCpu = timing
+is_cpu_of timing kinds.Xbar = false
+is_cpu_of timing kinds.Cache = false
+is_cpu_of timing kinds.Mem = false
+is_cpu_of timing kinds.Uart = false
+is_cpu_of timing kinds.Timer = false
+is_cpu_of timing kinds.Exit = false
+is_cpu_of timing kinds.Dma = false
+
+-- the part in the configured mode, in whose CPU the hart is reset
 abbrev pub cpu_started : ℕ → Bool → ObjState → ObjState
-cpu_started entry true o = o
-cpu_started entry false o = with_arch (Some (reset entry)) o
+cpu_started entry timing o = with_mode timing (if is_cpu_of timing (kind_of o) then with_arch (Some (reset entry)) o else o)
 
 -- RAM has these bytes
 abbrev pub ram_loaded : List ℕ → ObjState → ObjState
@@ -49,7 +62,8 @@ start_state c entry ram = record {
   trace = false;
   draining = true;
   wires = wires_of (platform c);
-  router = router_of c;
+  ways = ways_of (platform c);
+  routes = routes_of 0 (platform c);
 }
 
 -- RAM of a size with these bytes in front, and zeros behind

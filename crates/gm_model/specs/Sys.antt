@@ -3,7 +3,7 @@ use Rattle.std.specs.Prelude.{ℕ, ◌+◌, Bool, if◌then◌else◌, is_some, 
 use Rattle.ev_queue.specs.declared.due.Due.{Due}
 use Rattle.gm_words.specs.Counts.{Counts}
 use Rattle.gm_words.specs.Platform.{End}
-use Rattle.gm_words.specs.Router.{Router}
+use Rattle.gm_words.specs.Routes.{Route}
 use Rattle.gm_model.specs.ObjState.{ObjState, Blank}
 use Rattle.gm_words.specs.Changes.{Change, changed}
 use Rattle.gm_model.specs.Command.{arch_of}
@@ -15,7 +15,8 @@ use Rattle.gm_words.specs.declared.wake.Wake.{Wake}
 
 -- the tick, the pending events in service order, the objects in the order of their paths, the next packet number, what
 -- was counted since the last rebase, the tick of that, whether events are traced, whether the machine is draining; and what
--- never changes: for each object the peers of its ports, and the way of packets in atomic mode
+-- never changes: for each object the peers of its ports; where its packets come in that are passed at once; and which addresses are of
+-- a range
 pub record Sys : Type 0 where
   pub tick : ℕ
   pub pending : List Due
@@ -26,7 +27,8 @@ pub record Sys : Type 0 where
   pub trace : Bool
   pub draining : Bool
   pub wires : List (List End)
-  pub router : Router
+  pub ways : List (List End)
+  pub routes : List Route
 
 -- the peer of a port; one that isn't wired is its own
 abbrev pub peer_in : List (List End) → ℕ → ℕ → End

@@ -4,9 +4,9 @@ use Rattle.rv_step.specs.declared.arch.Arch.{Arch}
 use Rattle.rv_step.specs.Arch.{reset}
 use Rattle.rv_step.specs.FlatMem.{ram_byte}
 use Rattle.gm_words.specs.Packet.{carried_number, is_response, response_number}
-use Rattle.gm_model.specs.ObjState.{ObjState, Blank, AtomicCpu, Server, CpuStage, Rest, AwaitFetch, AwaitData, Device, Memory, Uart, Exit, Timer}
-use Rattle.gm_words.specs.Flow.{Queued}
-use Rattle.gm_words.specs.Router.{Route, is_unmapped}
+use Rattle.gm_model.specs.ObjState.{ObjState, Blank, AtomicCpu, TimingCpu, Xbar, Server, CpuStage, Rest, AwaitFetch, AwaitData, TimingStage, Between, Fetch, Ready, Data, Hand, Asks, Held, Away, Device, Memory, Uart, Exit, Timer}
+use Rattle.gm_words.specs.Flow.{Queued, Lane}
+use Rattle.gm_words.specs.Routes.{Route, is_unmapped}
 use Rattle.gm_model.specs.Command.{own_bytes}
 use Rattle.gm_model.specs.Sys.{Sys}
 use Rattle.gm_model.specs.Deliver.{Item, Sent, Done}
@@ -20,10 +20,28 @@ abbrev pub queued_packets : List Queued → List Packet
 queued_packets [] = []
 queued_packets (q ∷ qs) = q.packet ∷ queued_packets qs
 
+-- of layers, and of a timing CPU
+abbrev pub lane_packets : List Lane → List Packet
+lane_packets [] = []
+lane_packets (l ∷ ls) = queued_packets l.flow.items ++ lane_packets ls
+
+abbrev pub hand_packets : Hand → List Packet
+hand_packets (Asks x) = x ∷ []
+hand_packets (Held x) = x ∷ []
+hand_packets Away = []
+
+abbrev pub stage_packets : TimingStage → List Packet
+stage_packets Between = []
+stage_packets (Fetch h) = hand_packets h
+stage_packets (Ready w) = []
+stage_packets (Data w h) = hand_packets h
+
 -- the packets that a part holds
 unfoldable pub packets_in : ObjState → List Packet
 packets_in (Blank k) = []
 packets_in (AtomicCpu s) = []
+packets_in (TimingCpu s) = stage_packets s.stage
+packets_in (Xbar s) = lane_packets (s.side.lane ∷ s.lanes)
 packets_in (Server s) = queued_packets s.flow.items
 
 abbrev pub part_packets : List ObjState → List Packet
@@ -70,6 +88,12 @@ atomic_doing Rest = Boundary
 atomic_doing AwaitFetch = Fetching
 atomic_doing (AwaitData w latency) = Accessing w
 
+abbrev pub timing_doing : TimingStage → Doing
+timing_doing Between = Boundary
+timing_doing (Fetch h) = Fetching
+timing_doing (Ready w) = Decoded w
+timing_doing (Data w h) = Accessing w
+
 -- the hart, and where it stands
 pub record Mind : Type 0 where
   pub arch : Arch
@@ -83,6 +107,8 @@ mind_with d (Some a) = Some (record { arch = a; doing = d })
 unfoldable pub mind_of : ObjState → Option Mind
 mind_of (Blank k) = None
 mind_of (AtomicCpu s) = mind_with (atomic_doing s.stage) s.arch
+mind_of (TimingCpu s) = mind_with (timing_doing s.stage) s.arch
+mind_of (Xbar s) = None
 mind_of (Server s) = None
 
 -- the progress of a fetch
@@ -115,6 +141,8 @@ device_view (Timer t) = None
 unfoldable pub memory_of : ObjState → Option (List ℕ)
 memory_of (Blank k) = None
 memory_of (AtomicCpu s) = None
+memory_of (TimingCpu s) = None
+memory_of (Xbar s) = None
 memory_of (Server s) = device_view s.device
 
 -- the first part's that shows any
@@ -144,6 +172,6 @@ parts_mind (o ∷ os) = elim (mind_of o) [ Some m ↦ m | None ↦ parts_mind os
 abbrev pub program_state : Sys → List Item → ProgramState
 program_state s items = record {
   arch = (parts_mind s.objects).arch;
-  progress = progress_of s.router.routes (parts_mind s.objects).doing (awaited (all_packets s items));
+  progress = progress_of s.routes (parts_mind s.objects).doing (awaited (all_packets s items));
   memory = view_ram s;
 }

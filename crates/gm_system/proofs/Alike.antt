@@ -6,7 +6,7 @@ use Rattle.std.proofs.lemmas.List.Sums.{sum_by-cons}
 use Rattle.ev_queue.specs.declared.slot.Slot.{Slot}
 use Rattle.ev_queue.specs.PendingList.{IsInServiceOrder, HoldsSlotsOnce, is_pending}
 use Rattle.gm_words.specs.Counts.{IsCountedUpTo}
-use Rattle.gm_words.specs.Router.{Route, destination, is_unmapped}
+use Rattle.gm_words.specs.Routes.{Route, destination, is_unmapped}
 use Rattle.gm_words.specs.Slots.{gave_from}
 use Rattle.gm_words.specs.declared.kind.Kind.TheVariants as kinds
 use Rattle.gm_words.specs.declared.packet.Packet.{Packet}
@@ -37,7 +37,7 @@ pub record IsPartAlike (rs : List Route) (ram : ℕ) (o p : ObjState) : Type 0 w
 pub record IsAlike (ram : ℕ) (s t : Sys) : Type 0 where
   pub wiring : IsWiredAlike s t
   pub count : length t.objects ≡ length s.objects
-  pub parts : (k : ℕ) → IsPartAlike s.router.routes ram (object_at s k) (object_at t k)
+  pub parts : (k : ℕ) → IsPartAlike s.routes ram (object_at s k) (object_at t k)
   pub due : (k n : ℕ) → (faces t k).due n ≡ is_pending t.pending k n
   pub order : IsInServiceOrder t.pending
   pub once : HoldsSlotsOnce t.pending
@@ -136,7 +136,7 @@ module _ (ram : ℕ) (s t : Sys) (h : IsSound ram s []) (a : IsAlike ram s t) (m
       one_store = others;
       size = size;
       owes = ap (weigh core) all ∙ h.program.owes;
-      fits = subst (λ r. weigh (bad r.routes ram h.program.mind) (all_packets t []) ≡ 0) (sym a.wiring.router) (ap (weigh (bad s.router.routes ram h.program.mind)) all ∙ h.program.fits);
+      fits = subst (λ r. weigh (bad r.routes ram h.program.mind) (all_packets t []) ≡ 0) (sym a.wiring.router) (ap (weigh (bad s.routes ram h.program.mind)) all ∙ h.program.fits);
       at_once = λ i. ap (weigh core) packets ∙ h.program.at_once (sym (ap (λ (f : Face). f.instant) (face h.program.cpu)) ∙ i);
       in_time = λ i. refl;
       mapped = λ x n l e. ap (λ r. is_unmapped r.routes x) a.wiring.router ∙ h.program.mapped x n l e;
@@ -145,9 +145,9 @@ module _ (ram : ℕ) (s t : Sys) (h : IsSound ram s []) (a : IsAlike ram s t) (m
   }
 
   -- to the program nothing changed but memory
-  pub alike_state : program_state t [] ≡ state_with s.router.routes h.program.mind (all_packets s []) memory
+  pub alike_state : program_state t [] ≡ state_with s.routes h.program.mind (all_packets s []) memory
   unfolding alike_sound
-  alike_state = state_is ram t [] alike_sound.program ∙ (ap (λ r. state_with r.routes h.program.mind (all_packets t []) memory) a.wiring.router ∙ ap (λ xs. state_with s.router.routes h.program.mind xs memory) all)
+  alike_state = state_is ram t [] alike_sound.program ∙ (ap (λ r. state_with r.routes h.program.mind (all_packets t []) memory) a.wiring.router ∙ ap (λ xs. state_with s.routes h.program.mind xs memory) all)
 
   pub alike_packets : (f : Packet → ℕ) → weigh f (all_packets t []) ≡ weigh f (all_packets s [])
   alike_packets f = ap (weigh f) all

@@ -30,7 +30,7 @@ command_run : (s t : Sys) (table : List Slot) → IsMachineSound t table → IsW
 command_run s t table h w same packets next = record {
   sound = h;
   wiring = w;
-  replays = no_entry s.router.routes (program_state s []) (program_state t []) (sym same);
+  replays = no_entry s.routes (program_state s []) (program_state t []) (sym same);
   conserved = λ f e. omega (arith, packets f);
   drawn = next;
 }

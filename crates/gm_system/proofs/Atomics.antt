@@ -20,7 +20,7 @@ use Rattle.gm_words.specs.declared.wake.Wake.TheVariants as wakes
 use Rattle.gm_words.specs.declared.act.Act.{Act}
 use Rattle.gm_words.specs.declared.cmd.Cmd.{Cmd}
 use Rattle.gm_words.specs.declared.cmd.Cmd.TheVariants as cmds
-use Rattle.gm_words.specs.Router.{Route, destination, is_unmapped}
+use Rattle.gm_words.specs.Routes.{Route, destination, is_unmapped}
 use Rattle.gm_model.specs.EventMoves.{atomic_moves}
 use Rattle.std.specs.Prelude.{is_none}
 use Rattle.gm_laws.proofs.EachKind.{blank_face}
@@ -78,7 +78,7 @@ ok-done (Sent j a ∷ items) i l y h r = (h.0, ok-done items i l y h.1 r)
 ok-done (Done j x m ∷ items) i l y h r = (h.0, ok-done items i l y h.1 r)
 
 module _ (ram : ℕ) (s : Sys) (rest : List Item) (i port : ℕ) (x : Packet) (k total : ℕ) (h : IsSound ram s (Sent i (acts.Atomic (record { 0 = port }) x) ∷ rest)) (here : k < length s.objects)
-    (d : IsDone s.router.routes ram (faces s k) x (pass_at s k x)) where
+    (d : IsDone s.routes ram (faces s k) x (pass_at s k x)) where
   abbrev r : Stepped
   r = record {
     state = (pass_at s k x).state;
@@ -149,7 +149,7 @@ module _ (ram : ℕ) (s : Sys) (rest : List Item) (i port : ℕ) (x : Packet) (k
   same_core : core (pass_at s k x).packet ≡ core x
   same_core = omega (
     arith,
-    responses_core s.router.routes p.memory (seen (face_of (pass_at s k x).state).memory p.memory) (record { request = x; response = (pass_at s k x).packet } ∷ []) (pass_at s k x).entries
+    responses_core s.routes p.memory (seen (face_of (pass_at s k x).state).memory p.memory) (record { request = x; response = (pass_at s k x).packet } ∷ []) (pass_at s k x).entries
         (d.serves p.memory p.size (seen_by ram s (Sent i (acts.Atomic (record { 0 = port }) x) ∷ rest) p k)),
   )
 
@@ -179,9 +179,9 @@ module _ (ram : ℕ) (s : Sys) (rest : List Item) (i port : ℕ) (x : Packet) (k
     by_instant j (inl e) = subst (λ q. (faces t q).instant ≡ (faces s q).instant) (sym e) (ap (λ o. (face_of o).instant) same ∙ d.instant)
     by_instant j (inr n) = ap (λ o. (face_of o).instant) (other j n)
 
-  may : MayThink s.router.routes ram p.mind (faces s k) (wakes.Refused (record { 0 = 0 }))
+  may : MayThink s.routes ram p.mind (faces s k) (wakes.Refused (record { 0 = 0 }))
   may = record {
-    held = omega (arith, p.fits, all_now (bad s.router.routes ram p.mind), part_le (bad s.router.routes ram p.mind) s.objects k (Blank kinds.AtomicCpu) here);
+    held = omega (arith, p.fits, all_now (bad s.routes ram p.mind), part_le (bad s.routes ram p.mind) s.objects k (Blank kinds.AtomicCpu) here);
     shows = refl;
     owned = λ e. omega (arith, p.owes, all_now core, part_le core s.objects k (Blank kinds.AtomicCpu) here);
     foreign = λ e u. refl;
@@ -231,12 +231,12 @@ module _ (passes : PassesHold) (ram : ℕ) (s : Sys) (rest : List Item) (i port 
   plain = by (is_write_back x.cmd) refl where
     by : (b : Bool) → is_write_back x.cmd ≡ b → is_write_back x.cmd ≡ false
     by false e = e
-    by true e = absurd (no_write_back s.router.routes ram h.program.mind x
-        (omega (arith, h.program.fits, weigh-append (bad s.router.routes ram h.program.mind) (part_packets s.objects) (x ∷ item_packets rest))) (written_back x.cmd e))
+    by true e = absurd (no_write_back s.routes ram h.program.mind x
+        (omega (arith, h.program.fits, weigh-append (bad s.routes ram h.program.mind) (part_packets s.objects) (x ∷ item_packets rest))) (written_back x.cmd e))
 
   -- what the part owes that serves it
-  pub served : (k : ℕ) → destination s.router.routes x.addr ≡ Some k → IsDone s.router.routes ram (faces s k) x (pass_at s k x)
-  served k e = passes s.router.routes ram (object_at s k) x s.tick (h.net.parts k) (h.net.routed x k e).fits h.net.sent.0 plain
+  pub served : (k : ℕ) → destination s.routes x.addr ≡ Some k → IsDone s.routes ram (faces s k) x (pass_at s k x)
+  served k e = passes s.routes ram (object_at s k) x s.tick (h.net.parts k) (h.net.routed x k e).fits h.net.sent.0 plain
 
 -- a request of no range is refused
 record IsRefusal (rs : List Route) (x r : Packet) : Type 0 where
@@ -252,7 +252,7 @@ refusal rs x cmds.WriteBack e q w u = absurd (cc w)
 refusal rs x cmds.ReadResp e q w u = absurd (cc q)
 refusal rs x cmds.WriteResp e q w u = absurd (cc q)
 
-module _ (ram : ℕ) (s : Sys) (rest : List Item) (i port : ℕ) (x : Packet) (h : IsSound ram s (Sent i (acts.Atomic (record { 0 = port }) x) ∷ rest)) (nobody : destination s.router.routes x.addr ≡ None)
+module _ (ram : ℕ) (s : Sys) (rest : List Item) (i port : ℕ) (x : Packet) (h : IsSound ram s (Sent i (acts.Atomic (record { 0 = port }) x) ∷ rest)) (nobody : destination s.routes x.addr ≡ None)
     (plain_x : is_write_back x.cmd ≡ false) where
   -- a part that isn't there stands for nobody
   nothing : object_at s (length s.objects) ≡ Blank kinds.AtomicCpu
@@ -267,8 +267,8 @@ module _ (ram : ℕ) (s : Sys) (rest : List Item) (i port : ℕ) (x : Packet) (h
   no_packet : (f : Packet → ℕ) → weigh f (faces s (length s.objects)).packets ≡ 0
   no_packet f = ap (weigh f) (ap (λ o. (face_of o).packets) nothing ∙ ap (λ (g : Face). g.packets) blank_face)
 
-  facts : IsRefusal s.router.routes x (fault_response x x.cmd)
-  facts = refusal s.router.routes x x.cmd refl h.net.sent.0 plain_x (ap (λ o. is_none o) nobody)
+  facts : IsRefusal s.routes x (fault_response x x.cmd)
+  facts = refusal s.routes x x.cmd refl h.net.sent.0 plain_x (ap (λ o. is_none o) nobody)
 
   same_hart : core (fault_response x x.cmd) ≡ core x
   same_hart = ap (λ k. bit (is_of_hart k)) facts.src
@@ -301,9 +301,9 @@ module _ (ram : ℕ) (s : Sys) (rest : List Item) (i port : ℕ) (x : Packet) (h
     after = λ f e. omega (arith, all_after f, weigh-append f (part_packets s.objects) (item_packets rest));
   }
 
-  refused_may : MayThink s.router.routes ram h.program.mind (faces s (length s.objects)) (wakes.Refused (record { 0 = 0 }))
+  refused_may : MayThink s.routes ram h.program.mind (faces s (length s.objects)) (wakes.Refused (record { 0 = 0 }))
   refused_may = record {
-    held = no_packet (bad s.router.routes ram h.program.mind);
+    held = no_packet (bad s.routes ram h.program.mind);
     shows = refl;
     owned = λ e. omega (arith, no_packet core);
     foreign = λ e u. refl;
@@ -333,7 +333,7 @@ module _ (ram : ℕ) (s : Sys) (rest : List Item) (i port : ℕ) (x : Packet) (h
         fits = λ n. refl;
         answered = refl;
         passed = refl;
-        serves = λ m l k. subst (λ (b : List ℕ). Serves s.router.routes m (record { request = x; response = fault_response x x.cmd } ∷ []) [] b) (sym k)
+        serves = λ m l k. subst (λ (b : List ℕ). Serves s.routes m (record { request = x; response = fault_response x x.cmd } ∷ []) [] b) (sym k)
             (serves m m m (record { request = x; response = fault_response x x.cmd }) [] [] [] (facts.service m) (none m));
         stays = λ k. k;
         remains = λ k. k;
@@ -356,9 +356,9 @@ module _ (passes : PassesHold) (ram : ℕ) where
   -- a packet that is passed at once
   pub atomic_handled : (s : Sys) (rest : List Item) (es : List Entry) (i port : ℕ) (x : Packet) → IsSound ram s (Sent i (acts.Atomic (record { 0 = port }) x) ∷ rest)
       → Handled ram (record { sys = s; items = Sent i (acts.Atomic (record { 0 = port }) x) ∷ rest; entries = es })
-      (deliver_atomic (record { sys = s; items = rest; entries = es }) i x (destination s.router.routes x.addr)) (atomic_moves s x (destination s.router.routes x.addr))
-  atomic_handled s rest es i port x h = by (destination s.router.routes x.addr) refl where
-    by : (o : Option ℕ) → destination s.router.routes x.addr ≡ o
+      (deliver_atomic (record { sys = s; items = rest; entries = es }) i x (destination s.routes x.addr)) (atomic_moves s x (destination s.routes x.addr))
+  atomic_handled s rest es i port x h = by (destination s.routes x.addr) refl where
+    by : (o : Option ℕ) → destination s.routes x.addr ≡ o
         → Handled ram (record { sys = s; items = Sent i (acts.Atomic (record { 0 = port }) x) ∷ rest; entries = es }) (deliver_atomic (record { sys = s; items = rest; entries = es }) i x o) (atomic_moves s x o)
     by None e = refused_handled ram s rest i port x h e (plain passes ram s rest i port x h) es
     by (Some k) e = pass_done ram s rest i port x k (s.router.latency + way_latency (pass_at s k x).way) h (h.net.routed x k e).there (served passes ram s rest i port x h k e) es

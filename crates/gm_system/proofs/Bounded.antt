@@ -15,7 +15,7 @@ use Rattle.gm_words.specs.HartLine.{is_line}
 use Rattle.gm_words.specs.Moves.{Moves, no_moves, joined, AreDrawn}
 use Rattle.gm_words.specs.Packet.{fault_response}
 use Rattle.gm_words.specs.Platform.{End}
-use Rattle.gm_words.specs.Router.{destination}
+use Rattle.gm_words.specs.Routes.{destination}
 use Rattle.gm_words.specs.Slots.{gave_from}
 use Rattle.gm_words.specs.declared.act.Act.{Act}
 use Rattle.gm_words.specs.declared.act.Act.TheVariants as acts
@@ -330,11 +330,11 @@ module _ (ram : ℕ) (table : List Slot) where
       weaker d (record { sys = s; items = Sent i (acts.CallRetry p) ∷ rest; entries = es }) (deliver_wake d q.part w) table 2 4 1 2 0 0 (step_at s q.part w).moves (step_at s q.part w).moves refl refl (omega arith) (omega arith) (omega arith) refl
       (wake_bounded d table q.part w (called_there ram s rest i p.0 sound) tt h fit.1)
   handle_bounded s rest es (Sent i (acts.SetLine b l)) sound h fit = line_bounded s rest es i b l (active_cpu s.objects) refl sound.net.sent.0 h fit.1
-  handle_bounded s rest es (Sent i (acts.Atomic p x)) sound h fit = by (destination s.router.routes x.addr) refl where
+  handle_bounded s rest es (Sent i (acts.Atomic p x)) sound h fit = by (destination s.routes x.addr) refl where
     d : Delivery
     d = record { sys = s; items = rest; entries = es }
 
-    by : (o : Option ℕ) → destination s.router.routes x.addr ≡ o
+    by : (o : Option ℕ) → destination s.routes x.addr ≡ o
         → IsBounded (record { sys = s; items = Sent i (acts.Atomic p x) ∷ rest; entries = es }) (deliver_atomic (record { sys = s; items = rest; entries = es }) i x o) table 4 2 0 (atomic_moves s x o)
     by None e = weaker d (record { sys = s; items = Sent i (acts.Atomic p x) ∷ rest; entries = es }) (deliver_atomic d i x None) table 2 4 1 2 (packet_speech x) 0 (atomic_moves s x None) (atomic_moves s x None) refl refl (omega arith) (omega arith) (omega arith) refl
         (refuse_bounded s rest es table i x h fit.1 fit.0)

@@ -8,7 +8,7 @@ use Rattle.ev_queue.specs.declared.due.Due.{Due}
 use Rattle.ev_queue.specs.declared.slot.Slot.{Slot}
 use Rattle.ev_queue.specs.PendingList.{IsInServiceOrder, HoldsSlotsOnce, is_pending}
 use Rattle.gm_words.specs.Changes.{changed, due_after}
-use Rattle.gm_words.specs.Router.{Route}
+use Rattle.gm_words.specs.Routes.{Route}
 use Rattle.gm_words.specs.declared.kind.Kind.TheVariants as kinds
 use Rattle.gm_words.specs.declared.packet.Packet.{Packet}
 use Rattle.gm_laws.specs.Words.{weigh}
@@ -107,7 +107,7 @@ module _ (s : Sys) (table : List Slot) (h : IsSteady s table) where
     commanded_alike = record {
       wiring = record { wires = refl; router = refl };
       count = length-map s.objects (λ o. (f o).state);
-      parts = λ k. subst (IsPartAlike s.router.routes h.ram (object_at s k)) (sym (at_all k)) (same_alike s.router.routes h.ram (object_at s k) (f (object_at s k)).state (keeps (object_at s k)).same);
+      parts = λ k. subst (IsPartAlike s.routes h.ram (object_at s k)) (sym (at_all k)) (same_alike s.routes h.ram (object_at s k) (f (object_at s k)).state (keeps (object_at s k)).same);
       due = λ k n. due k n (cases_lt k (length s.objects));
       order = commanded_order f s.objects s.pending h.parts.order;
       once = commanded_once f s.objects s.pending h.parts.once;
@@ -207,7 +207,7 @@ module _ (s : Sys) (table : List Slot) (b : ℕ) (h : IsSteady s table) where
   input_alike = record {
     wiring = record { wires = refl; router = refl };
     count = length-map s.objects (with_input b);
-    parts = λ k. subst (IsPartAlike s.router.routes h.ram (object_at s k)) (sym (input_at k)) (same_alike s.router.routes h.ram (object_at s k) (with_input b (object_at s k)) (commands_hold.input (object_at s k) b));
+    parts = λ k. subst (IsPartAlike s.routes h.ram (object_at s k)) (sym (input_at k)) (same_alike s.routes h.ram (object_at s k) (with_input b (object_at s k)) (commands_hold.input (object_at s k) b));
     due = λ k n. ap (λ o. (face_of o).due n) (input_at k) ∙ (commands_hold.input_due (object_at s k) b n ∙ h.sound.net.due k n);
     order = h.parts.order;
     once = h.parts.once;
@@ -265,9 +265,9 @@ module _ (s : Sys) (table : List Slot) (address : ℕ) (bytes : List ℕ) (h : I
   raw_alike = record {
     wiring = record { wires = refl; router = refl };
     count = length-map s.objects (λ o. with_own_bytes (address - 0x80000000) bytes o);
-    parts = λ k. subst (IsPartAlike s.router.routes h.ram (object_at s k)) (sym (raw_at k)) (record {
+    parts = λ k. subst (IsPartAlike s.routes h.ram (object_at s k)) (sym (raw_at k)) (record {
       face = alike (faces s k) (option_map (λ m. with_bytes_at m (address - 0x80000000) bytes) (faces s k).memory) (face_of (with_own_bytes (address - 0x80000000) bytes (object_at s k))) (commands_hold.put (object_at s k) (address - 0x80000000) bytes);
-      ok = commands_hold.put_ok s.router.routes h.ram (object_at s k) (address - 0x80000000) bytes;
+      ok = commands_hold.put_ok s.routes h.ram (object_at s k) (address - 0x80000000) bytes;
       within = commands_hold.put_within (object_at s k) (address - 0x80000000) bytes;
       object = commands_hold.put_object (object_at s k) (address - 0x80000000) bytes;
       slots = commands_hold.put_slots (object_at s k) (address - 0x80000000) bytes;

@@ -3,7 +3,7 @@ use Rattle.std.proofs.Common.{◌≡◌, ℕ, zero, suc, List, [], ◌∷◌, �
 use Rattle.std.proofs.lemmas.List.{append-nil, append_assoc}
 use Rattle.gm_model.specs.Deliver.{Item, Delivery, handle, deliver_first, deliver}
 use Rattle.gm_words.specs.Replay.{replay}
-use Rattle.gm_words.specs.Router.{Router}
+use Rattle.gm_words.specs.Routes.{Router}
 use Rattle.gm_words.specs.Moves.{Moves, no_moves, joined}
 use Rattle.gm_model.specs.EventMoves.{first_moves, item_moves, deliver_moves}
 use Rattle.gm_model.specs.Sys.{Sys}
@@ -22,7 +22,7 @@ module _ (ram : ℕ) where
   handled_none d h = record {
     sound = h;
     wiring = record { wires = refl; router = refl };
-    replayed = record { noted = []; entries = sym (append-nil d.entries); replays = no_entry d.sys.router.routes (program_state d.sys d.items) (program_state d.sys d.items) refl };
+    replayed = record { noted = []; entries = sym (append-nil d.entries); replays = no_entry d.sys.routes (program_state d.sys d.items) (program_state d.sys d.items) refl };
     conserved = record { same = λ f e. omega arith };
   }
 
@@ -33,7 +33,7 @@ module _ (ram : ℕ) where
     replayed = record {
       noted = a.replayed.noted ++ b.replayed.noted;
       entries = b.replayed.entries ∙ (ap (λ es. es ++ b.replayed.noted) a.replayed.entries ∙ append_assoc d.entries a.replayed.noted b.replayed.noted);
-      replays = replay-append d.sys.router.routes (program_state d.sys d.items) (program_state e.sys e.items) a.replayed.noted b.replayed.noted a.replayed.replays
+      replays = replay-append d.sys.routes (program_state d.sys d.items) (program_state e.sys e.items) a.replayed.noted b.replayed.noted a.replayed.replays
           ∙ (ap (λ (r : Router). replay r.routes (program_state e.sys e.items) b.replayed.noted) (sym a.wiring.router) ∙ b.replayed.replays);
     };
     conserved = record {

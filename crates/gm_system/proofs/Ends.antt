@@ -16,7 +16,7 @@ use Rattle.gm_system.specs.System.{IsSound, faces, fuel_of}
 use Rattle.gm_laws.specs.Laws.{IsDone}
 use Rattle.gm_laws.proofs.EachKind.{passes_hold}
 use Rattle.gm_words.specs.Packet.{fault_response}
-use Rattle.gm_words.specs.Router.{destination}
+use Rattle.gm_words.specs.Routes.{destination}
 use Rattle.gm_system.proofs.Atomics.{served}
 use Rattle.gm_system.proofs.Deliveries.{first_keeps}
 use Rattle.gm_system.proofs.Fuels.{put_falls, weight-append, offer_falls, call_falls, line_falls, done_falls}
@@ -24,7 +24,7 @@ use Rattle.gm_system.proofs.Items.{active_below, active_there}
 use Rattle.gm_system.proofs.Systems.{put, part_there}
 
 module _ (ram : ℕ) where
-  pass_falls : (s : Sys) (rest : List Item) (es : List Entry) (i port : ℕ) (x : Packet) (k total : ℕ) → IsSound ram s (Sent i (acts.Atomic (record { 0 = port }) x) ∷ rest) → k < length s.objects → IsDone s.router.routes ram (faces s k) x (pass_at s k x)
+  pass_falls : (s : Sys) (rest : List Item) (es : List Entry) (i port : ℕ) (x : Packet) (k total : ℕ) → IsSound ram s (Sent i (acts.Atomic (record { 0 = port }) x) ∷ rest) → k < length s.objects → IsDone s.routes ram (faces s k) x (pass_at s k x)
       → (let d : Delivery = done_at (deliver_passed (record { sys = s; items = rest; entries = es }) k x) i (pass_at s k x).packet total in fuel_of d.sys d.items < fuel_of s (Sent i (acts.Atomic (record { 0 = port }) x) ∷ rest))
   pass_falls s rest es i port x k total h here d =
       let r : Stepped = record { state = (pass_at s k x).state; next = s.next; changes = (pass_at s k x).changes; acts = (pass_at s k x).acts; entries = (pass_at s k x).entries; answer = answers.Nothing; moves = no_moves } in
@@ -40,9 +40,9 @@ module _ (ram : ℕ) where
       omega (arith, m, weight-append (rest ++ sent_by k (pass_at s k x).acts) (Done i (pass_at s k x).packet total ∷ []))
 
   atomic_falls : (s : Sys) (rest : List Item) (es : List Entry) (i port : ℕ) (x : Packet) → IsSound ram s (Sent i (acts.Atomic (record { 0 = port }) x) ∷ rest)
-      → (let d : Delivery = deliver_atomic (record { sys = s; items = rest; entries = es }) i x (destination s.router.routes x.addr) in fuel_of d.sys d.items < fuel_of s (Sent i (acts.Atomic (record { 0 = port }) x) ∷ rest))
-  atomic_falls s rest es i port x h = by (destination s.router.routes x.addr) refl where
-    by : (o : Option ℕ) → destination s.router.routes x.addr ≡ o
+      → (let d : Delivery = deliver_atomic (record { sys = s; items = rest; entries = es }) i x (destination s.routes x.addr) in fuel_of d.sys d.items < fuel_of s (Sent i (acts.Atomic (record { 0 = port }) x) ∷ rest))
+  atomic_falls s rest es i port x h = by (destination s.routes x.addr) refl where
+    by : (o : Option ℕ) → destination s.routes x.addr ≡ o
         → (let d : Delivery = deliver_atomic (record { sys = s; items = rest; entries = es }) i x o in fuel_of d.sys d.items < fuel_of s (Sent i (acts.Atomic (record { 0 = port }) x) ∷ rest))
     by None e = omega (arith, weight-append rest (Done i (fault_response x x.cmd) s.router.latency ∷ []))
     by (Some k) e = pass_falls s rest es i port x k (s.router.latency + way_latency (pass_at s k x).way) h (h.net.routed x k e).there (served passes_hold ram s rest i port x h k e)

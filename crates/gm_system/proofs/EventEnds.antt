@@ -58,7 +58,7 @@ module _ (ram : ℕ) (s : Sys) (n t : ℕ) (e : Due) (h : IsSound ram s []) (onc
   pub here : e.owner.0 < length s.objects
   here = due_there s e.owner.0 e.slot.0 (fired ram s n t e h once there)
 
-  k : Keeps start.router.routes ram (faces start e.owner.0) (wakes.Event e.slot) (step_at start e.owner.0 (wakes.Event e.slot))
+  k : Keeps start.routes ram (faces start e.owner.0) (wakes.Event e.slot) (step_at start e.owner.0 (wakes.Event e.slot))
   k = keeps wakes_hold ram start [] e.owner.0 (wakes.Event e.slot) Clear Clear before here
       (pays_none (peer_in s.wires) (faces start) h.net.wired e.owner.0 (wakes.Event e.slot) (step_at start e.owner.0 (wakes.Event e.slot)).answer (λ r. (refl, refl, refl, refl)))
 

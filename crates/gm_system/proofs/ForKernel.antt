@@ -10,7 +10,7 @@ use Rattle.gm_words.specs.Counts.{Counts}
 use Rattle.gm_words.specs.Entries.{console_of}
 use Rattle.gm_words.specs.HartLine.{is_line}
 use Rattle.gm_words.specs.Platform.{End, platform}
-use Rattle.gm_words.specs.Router.{destination}
+use Rattle.gm_words.specs.Routes.{destination}
 use Rattle.gm_words.specs.Slots.{gave_from, given_table}
 use Rattle.gm_words.specs.declared.act.Act.TheVariants as acts
 use Rattle.gm_words.specs.declared.answer.Answer.{Answer}
@@ -80,7 +80,7 @@ module _ (d : Delivery) (table : List Slot) (h : IsDeliverySound d table) (it : 
 pub pass_soon : (s : Sys) (table : List Slot) (k : ℕ) (x : Packet) → HasSoundParts s table → way_latency (pass_at s k x).way ≤ 1000000
 pass_soon s table k x h = (rules_are_modest.pass (object_at s k) x s.tick (h.within k)).soon
 
-pub pass_there : (d : Delivery) (table : List Slot) (k : ℕ) (x : Packet) → IsDeliverySound d table → destination d.sys.router.routes x.addr ≡ Some k → k < length d.sys.objects
+pub pass_there : (d : Delivery) (table : List Slot) (k : ℕ) (x : Packet) → IsDeliverySound d table → destination d.sys.routes x.addr ≡ Some k → k < length d.sys.objects
 pass_there d table k x h e = (h.sound.net.routed x k e).there
 
 -- the sender of a response is there

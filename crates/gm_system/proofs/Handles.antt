@@ -185,7 +185,7 @@ module _ (laws : WakesHold) (ram : ℕ) where
         less false = omega arith
 
   -- an event that was taken out: its slot was due, and isn't pending any more
-  pub event_handled : (s : Sys) (es : List Entry) (i : ℕ) (slot : SlotNo) → IsProgram ram s [] → ((k : ℕ) → IsOk s.router.routes ram (object_at s k)) → IsWired (peer_in s.wires) (faces s) → Net (peer_in s.wires) (faces s) [] Clear → IsRouted s.router.routes (faces s) (length s.objects)
+  pub event_handled : (s : Sys) (es : List Entry) (i : ℕ) (slot : SlotNo) → IsProgram ram s [] → ((k : ℕ) → IsOk s.routes ram (object_at s k)) → IsWired (peer_in s.wires) (faces s) → Net (peer_in s.wires) (faces s) [] Clear → IsRouted s.routes (faces s) (length s.objects)
       → (faces s i).due slot.0 ≡ true → ((n : ℕ) → (if n == slot.0 then false else (faces s i).due n) ≡ is_pending s.pending i n)
       → ((k n : ℕ) → (k ≡ i → ⊥) → (faces s k).due n ≡ is_pending s.pending k n)
       → Handled ram (record { sys = s; items = []; entries = es }) (deliver_wake (record { sys = s; items = []; entries = es }) i (wakes.Event slot)) (step_at s i (wakes.Event slot)).moves

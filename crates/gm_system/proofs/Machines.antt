@@ -82,7 +82,7 @@ none_spoken (o ∷ os) d h = omega (arith, sum_by-cons part_speech o os, h 0, no
 
 module _ (ram : ℕ) (s : Sys) (h : IsSound ram s []) where
   quiet_part : (k : ℕ) → part_speech (object_at s k) ≡ 0
-  quiet_part k = commands_hold.rests s.router.routes ram (object_at s k) (h.net.parts k) (by (cases_eq k h.program.cpu)) where
+  quiet_part k = commands_hold.rests s.routes ram (object_at s k) (h.net.parts k) (by (cases_eq k h.program.cpu)) where
     all : weigh core (all_packets s []) ≡ weigh core (part_packets s.objects)
     all = ap (weigh core) (append-nil (part_packets s.objects))
 

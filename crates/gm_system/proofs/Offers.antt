@@ -133,7 +133,7 @@ module _ (laws : WakesHold) (ram : ℕ) (s : Sys) (rest : List Item) (i p : ℕ)
   pub pays : Pays (peer_in s.wires) (faces s) (peer_in s.wires i p).part w r.answer (Offering i p) (left_by r.answer i p)
   pays = pays_offer (peer_in s.wires) (faces s) h.wired i p x r.answer head
 
-  pub k : Keeps s.router.routes ram (faces s (peer_in s.wires i p).part) w r
+  pub k : Keeps s.routes ram (faces s (peer_in s.wires i p).part) w r
   k = keeps laws ram s rest (peer_in s.wires i p).part w (Offering i p) (left_by r.answer i p) first there pays
 
   abbrev pub s1 : Sys
@@ -143,13 +143,13 @@ module _ (laws : WakesHold) (ram : ℕ) (s : Sys) (rest : List Item) (i p : ℕ)
   items1 = rest ++ sent_by (peer_in s.wires i p).part r.acts
 
   net1 : IsNet ram s1 items1 (left_by r.answer i p)
-  net1 = net_kept ram s rest (peer_in s.wires i p).part w r (Offering i p) (left_by r.answer i p) first there (net_part s.router.routes ram (faces s (peer_in s.wires i p).part) w r k) pays
+  net1 = net_kept ram s rest (peer_in s.wires i p).part w r (Offering i p) (left_by r.answer i p) first there (net_part s.routes ram (faces s (peer_in s.wires i p).part) w r k) pays
 
   other1 : (j : ℕ) → (j ≡ (peer_in s.wires i p).part → ⊥) → object_at s1 j ≡ object_at s j
-  other1 = at_other ram s rest (peer_in s.wires i p).part w r (Offering i p) (left_by r.answer i p) first there (net_part s.router.routes ram (faces s (peer_in s.wires i p).part) w r k) pays
+  other1 = at_other ram s rest (peer_in s.wires i p).part w r (Offering i p) (left_by r.answer i p) first there (net_part s.routes ram (faces s (peer_in s.wires i p).part) w r k) pays
 
   same1 : object_at s1 (peer_in s.wires i p).part ≡ r.state
-  same1 = at_same ram s rest (peer_in s.wires i p).part w r (Offering i p) (left_by r.answer i p) first there (net_part s.router.routes ram (faces s (peer_in s.wires i p).part) w r k) pays
+  same1 = at_same ram s rest (peer_in s.wires i p).part w r (Offering i p) (left_by r.answer i p) first there (net_part s.routes ram (faces s (peer_in s.wires i p).part) w r k) pays
 
   -- the second
   abbrev pub w2 : Wake
@@ -167,7 +167,7 @@ module _ (laws : WakesHold) (ram : ℕ) (s : Sys) (rest : List Item) (i p : ℕ)
   pub pays2 : Pays (peer_in s1.wires) (faces s1) i w2 r2.answer (left_by r.answer i p) Clear
   pays2 = pays_told (peer_in s1.wires) (faces s1) net1.wired i p r.answer r2.answer
 
-  pub k2 : Keeps s1.router.routes ram (faces s1 i) w2 r2
+  pub k2 : Keeps s1.routes ram (faces s1 i) w2 r2
   k2 = keeps laws ram s1 items1 i w2 (left_by r.answer i p) Clear second here1 pays2
 
   quiet2 : SaysNothing (faces s1 i) r2
@@ -180,13 +180,13 @@ module _ (laws : WakesHold) (ram : ℕ) (s : Sys) (rest : List Item) (i p : ℕ)
   items2 = items1 ++ sent_by i r2.acts
 
   net2 : IsNet ram s2 items2 Clear
-  net2 = net_kept ram s1 items1 i w2 r2 (left_by r.answer i p) Clear second here1 (net_part s1.router.routes ram (faces s1 i) w2 r2 k2) pays2
+  net2 = net_kept ram s1 items1 i w2 r2 (left_by r.answer i p) Clear second here1 (net_part s1.routes ram (faces s1 i) w2 r2 k2) pays2
 
   other2 : (j : ℕ) → (j ≡ i → ⊥) → object_at s2 j ≡ object_at s1 j
-  other2 = at_other ram s1 items1 i w2 r2 (left_by r.answer i p) Clear second here1 (net_part s1.router.routes ram (faces s1 i) w2 r2 k2) pays2
+  other2 = at_other ram s1 items1 i w2 r2 (left_by r.answer i p) Clear second here1 (net_part s1.routes ram (faces s1 i) w2 r2 k2) pays2
 
   same2 : object_at s2 i ≡ r2.state
-  same2 = at_same ram s1 items1 i w2 r2 (left_by r.answer i p) Clear second here1 (net_part s1.router.routes ram (faces s1 i) w2 r2 k2) pays2
+  same2 = at_same ram s1 items1 i w2 r2 (left_by r.answer i p) Clear second here1 (net_part s1.routes ram (faces s1 i) w2 r2 k2) pays2
 
   at_peer2 : object_at s2 (peer_in s.wires i p).part ≡ r.state
   at_peer2 = other2 (peer_in s.wires i p).part apart ∙ same1
@@ -247,10 +247,10 @@ module _ (laws : WakesHold) (ram : ℕ) (s : Sys) (rest : List Item) (i p : ℕ)
   held : (f : Packet → ℕ) → f x ≤ weigh f (faces s i).packets
   held f = (h.net.faces i).holds p x (omega (arith, asks)) head f
 
-  may_think : MayThink s.router.routes ram v.mind (faces s (peer_in s.wires i p).part) w
+  may_think : MayThink s.routes ram v.mind (faces s (peer_in s.wires i p).part) w
   may_think = record {
-    held = omega (arith, v.fits, all_now (bad s.router.routes ram v.mind), part_le (bad s.router.routes ram v.mind) s.objects (peer_in s.wires i p).part (Blank kinds.AtomicCpu) there);
-    shows = omega (arith, v.fits, all_now (bad s.router.routes ram v.mind), part_le (bad s.router.routes ram v.mind) s.objects i (Blank kinds.AtomicCpu) here, held (bad s.router.routes ram v.mind));
+    held = omega (arith, v.fits, all_now (bad s.routes ram v.mind), part_le (bad s.routes ram v.mind) s.objects (peer_in s.wires i p).part (Blank kinds.AtomicCpu) there);
+    shows = omega (arith, v.fits, all_now (bad s.routes ram v.mind), part_le (bad s.routes ram v.mind) s.objects i (Blank kinds.AtomicCpu) here, held (bad s.routes ram v.mind));
     owned = λ e. omega (arith, v.owes, all_now core, two_parts core s.objects (peer_in s.wires i p).part i (Blank kinds.AtomicCpu) there here apart, held core);
     foreign = λ e u. foreign e u (faces s v.cpu).instant refl;
     done = λ e y l o. cc;
@@ -292,7 +292,7 @@ module _ (laws : WakesHold) (ram : ℕ) (s : Sys) (rest : List Item) (i p : ℕ)
     by_instant j (inr m) (inl e) = subst (λ t. (faces s2 t).instant ≡ (faces s t).instant) (sym e) (ap (λ o. (face_of o).instant) at_peer2 ∙ k.same.instant)
     by_instant j (inr m) (inr n) = ap (λ o. (face_of o).instant) (other2 j m ∙ other1 j n)
 
-  quiet : ((peer_in s.wires i p).part ≡ v.cpu → ⊥) → Mindless s.router.routes ram (faces s (peer_in s.wires i p).part) (face_of r.state) r.acts r.entries r.moves
+  quiet : ((peer_in s.wires i p).part ≡ v.cpu → ⊥) → Mindless s.routes ram (faces s (peer_in s.wires i p).part) (face_of r.state) r.acts r.entries r.moves
   quiet n = k.mindless v.mind (v.alone (peer_in s.wires i p).part n) may_think
 
   active : (peer_in s.wires i p).part ≡ v.cpu → Thinks ram v.mind (faces s (peer_in s.wires i p).part) (face_of r.state) r.acts r.entries r.moves
@@ -304,7 +304,7 @@ module _ (laws : WakesHold) (ram : ℕ) (s : Sys) (rest : List Item) (i p : ℕ)
     by (inl e) = absurd (omega (arith, real, (h.net.faces (peer_in s.wires i p).part).portless (ap (λ j. (faces s j).instant) e ∙ u)))
     by (inr n) =
         let m = quiet n in
-        let sv = responses_core s.router.routes v.memory (seen (face_of r.state).memory v.memory) r.moves.served r.entries (m.serves v.memory v.size (seen_by ram s (Sent i (offer_out p x) ∷ rest) v (peer_in s.wires i p).part)) in
+        let sv = responses_core s.routes v.memory (seen (face_of r.state).memory v.memory) r.moves.served r.entries (m.serves v.memory v.size (seen_by ram s (Sent i (offer_out p x) ∷ rest) v (peer_in s.wires i p).part)) in
         omega (
           arith,
           v.at_once u,

@@ -5,7 +5,7 @@ use Rattle.gm_model.specs.Deliver.{Item}
 use Rattle.gm_model.specs.ObjState.{Blank}
 use Rattle.gm_words.specs.Platform.{is_in_ram}
 use Rattle.gm_words.specs.Replay.{ProgramState, replay}
-use Rattle.gm_words.specs.Router.{Route, is_unmapped}
+use Rattle.gm_words.specs.Routes.{Route, is_unmapped}
 use Rattle.gm_words.specs.Moves.{Moves}
 use Rattle.gm_model.specs.Sys.{Sys}
 use Rattle.gm_model.specs.View.{Mind, all_packets, part_packets, item_packets, program_state, parts_mind, parts_view, awaited, progress_of}
@@ -31,7 +31,7 @@ pub record Shift (xs ys : List Packet) (v : Moves) : Type 0 where
 
 -- beside the part q the machines s and t are alike to the program, and q is like g
 pub record IsElse (s t : Sys) (q : ℕ) (g : Face) : Type 0 where
-  pub routes : t.router.routes ≡ s.router.routes
+  pub routes : t.routes ≡ s.routes
   pub mind : (faces t q).mind ≡ g.mind
   pub memory : (faces t q).memory ≡ g.memory
   pub minds : (k : ℕ) → (k ≡ q → ⊥) → (faces t k).mind ≡ (faces s k).mind
@@ -40,17 +40,17 @@ pub record IsElse (s t : Sys) (q : ℕ) (g : Face) : Type 0 where
   pub instants : (k : ℕ) → (faces t k).instant ≡ (faces s k).instant
 
 -- the program's state, by the invariant
-pub state_is : (ram : ℕ) (s : Sys) (items : List Item) (p : IsProgram ram s items) → program_state s items ≡ state_with s.router.routes p.mind (all_packets s items) p.memory
+pub state_is : (ram : ℕ) (s : Sys) (items : List Item) (p : IsProgram ram s items) → program_state s items ≡ state_with s.routes p.mind (all_packets s items) p.memory
 state_is ram s items p =
     let m : parts_mind s.objects ≡ p.mind = mind_there s.objects p.cpu (Blank kinds.AtomicCpu) p.mind p.here blank_mind p.alone in
     let b : parts_view s.objects ≡ p.memory = memory_there s.objects p.store (Blank kinds.AtomicCpu) p.memory p.kept blank_memory p.one_store in
-    ap (λ (n : Mind). let q : ProgramState = record { arch = n.arch; progress = progress_of s.router.routes n.doing (awaited (all_packets s items)); memory = parts_view s.objects } in q) m
-    ∙ ap (λ (x : List ℕ). let q : ProgramState = record { arch = p.mind.arch; progress = progress_of s.router.routes p.mind.doing (awaited (all_packets s items)); memory = x } in q) b
+    ap (λ (n : Mind). let q : ProgramState = record { arch = n.arch; progress = progress_of s.routes n.doing (awaited (all_packets s items)); memory = parts_view s.objects } in q) m
+    ∙ ap (λ (x : List ℕ). let q : ProgramState = record { arch = p.mind.arch; progress = progress_of s.routes p.mind.doing (awaited (all_packets s items)); memory = x } in q) b
 
 -- what a step leaves
 pub record Step (ram : ℕ) (s t : Sys) (items later : List Item) (es : List Entry) : Type 0 where
   pub program : IsProgram ram t later
-  pub replays : replay s.router.routes (program_state s items) es ≡ Some (program_state t later)
+  pub replays : replay s.routes (program_state s items) es ≡ Some (program_state t later)
 
 -- packets that aren't the hart's come and go
 neutral : (rs : List Route) (ram : ℕ) (m : Mind) (xs ys : List Packet) (bytes : List ℕ) → Awaits rs ram m xs → weigh core ys ≡ weigh core xs → weigh (bad rs ram m) ys ≡ 0
@@ -59,12 +59,12 @@ neutral rs ram m xs ys bytes now c b e =
     (record { owes = omega (arith, now.owes, c); fits = b }, same_state m.arch bytes _ _ (kept_progress rs m.doing xs ys now.owes (omega (arith, now.owes, c)) e))
 
 module _ (ram : ℕ) (s t : Sys) (items later : List Item) (q : ℕ) (w : Wake) (g : Face) (acts : List Act) (es : List Entry) (v : Moves) (p : IsProgram ram s items) (same : IsElse s t q g)
-    (shift : Shift (all_packets s items) (all_packets t later) v) (may : MayThink s.router.routes ram p.mind (faces s q) w)
-    (mindless : (faces s q).mind ≡ None → Mindless s.router.routes ram (faces s q) g acts es v) (thinks : (faces s q).mind ≡ Some p.mind → Thinks ram p.mind (faces s q) g acts es v)
+    (shift : Shift (all_packets s items) (all_packets t later) v) (may : MayThink s.routes ram p.mind (faces s q) w)
+    (mindless : (faces s q).mind ≡ None → Mindless s.routes ram (faces s q) g acts es v) (thinks : (faces s q).mind ≡ Some p.mind → Thinks ram p.mind (faces s q) g acts es v)
     (at_once : (faces s p.cpu).instant ≡ true → weigh core (part_packets t.objects) ≡ 0) (in_time : (faces s p.cpu).instant ≡ false → weigh core (item_packets later) ≡ 0)
     (senders : weigh core (others_packets p.cpu later) ≡ 0) where
   rs : List Route
-  rs = s.router.routes
+  rs = s.routes
 
   xs : List Packet
   xs = all_packets s items
@@ -72,20 +72,20 @@ module _ (ram : ℕ) (s t : Sys) (items later : List Item) (q : ℕ) (w : Wake) 
   ys : List Packet
   ys = all_packets t later
 
-  now : Awaits s.router.routes ram p.mind (all_packets s items)
+  now : Awaits s.routes ram p.mind (all_packets s items)
   now = record { owes = p.owes; fits = p.fits }
 
   -- what is the same at every part but q is so of each
   kinds_now : (k : ℕ) → (k ≡ p.cpu → ⊥) → (faces t k).cpu ≡ true → (faces t p.cpu).instant ≡ false → (faces t k).instant ≡ true
   kinds_now k n c i = same.instants k ∙ p.kinds k n (sym (same.cpus k) ∙ c) (sym (same.instants p.cpu) ∙ i)
 
-  mapped_now : (address count : ℕ) → 1 ≤ count → is_in_ram ram address count ≡ true → is_unmapped t.router.routes address ≡ false
+  mapped_now : (address count : ℕ) → 1 ≤ count → is_in_ram ram address count ≡ true → is_unmapped t.routes address ≡ false
   mapped_now a c l h = ap (λ r. is_unmapped r a) same.routes ∙ p.mapped a c l h
 
   -- the part is the active CPU
   thinks_step : q ≡ p.cpu → Thinks ram p.mind (faces s q) g acts es v → Step ram s t items later es
   thinks_step e k =
-      let lead = thought_leads s.router.routes ram p.mind.arch p.mind.doing (all_packets s items) (all_packets t later) shift.stay v.made v.answered es k.after p.memory p.size now k.thought
+      let lead = thought_leads s.routes ram p.mind.arch p.mind.doing (all_packets s items) (all_packets t later) shift.stay v.made v.answered es k.after p.memory p.size now k.thought
       (λ f b. omega (arith, shift.before f b, ap (weigh f) k.absorbed, ap (λ x. weigh f (requests_of x)) k.served))
       (λ f b. omega (arith, shift.after f b, ap (λ x. weigh f (responses_of x)) k.served)) in
       let program : IsProgram ram t later = record {
@@ -108,7 +108,7 @@ module _ (ram : ℕ) (s t : Sys) (items later : List Item) (q : ℕ) (w : Wake) 
       } in
       record {
         program = program;
-        replays = ap (λ x. replay s.router.routes x es) (state_is ram s items p) ∙ (lead.replays
+        replays = ap (λ x. replay s.routes x es) (state_is ram s items p) ∙ (lead.replays
             ∙ ap Some (sym (state_is ram t later program ∙ ap (λ r. state_with r k.after (all_packets t later) p.memory) same.routes)));
       } where
         no_store : Some p.memory ≡ None → ⊥
@@ -129,15 +129,15 @@ module _ (ram : ℕ) (s t : Sys) (items later : List Item) (q : ℕ) (w : Wake) 
     by (inr n) = ap (λ o. seen o p.memory) (p.one_store q n)
 
   -- the part isn't the active CPU
-  mindless_step : (q ≡ p.cpu → ⊥) → Mindless s.router.routes ram (faces s q) g acts es v → Step ram s t items later es
+  mindless_step : (q ≡ p.cpu → ⊥) → Mindless s.routes ram (faces s q) g acts es v → Step ram s t items later es
   mindless_step n k =
       let ls : List Packet = shift.stay ++ v.made in
       let ms : List Packet = ls ++ requests_of v.served in
       let c : weigh core ms ≡ weigh core (all_packets s items) = omega (arith, shift.before core core_blind, k.made, k.answered, weigh-append core ls (requests_of v.served), weigh-append core shift.stay v.made) in
-      let m = neutral s.router.routes ram p.mind (all_packets s items) ms p.memory now c
-      (omega (arith, p.fits, shift.before (bad s.router.routes ram p.mind) (bad_blind s.router.routes ram p.mind), k.fits p.mind, weigh-append (bad s.router.routes ram p.mind) ls (requests_of v.served), weigh-append (bad s.router.routes ram p.mind) shift.stay v.made))
+      let m = neutral s.routes ram p.mind (all_packets s items) ms p.memory now c
+      (omega (arith, p.fits, shift.before (bad s.routes ram p.mind) (bad_blind s.routes ram p.mind), k.fits p.mind, weigh-append (bad s.routes ram p.mind) ls (requests_of v.served), weigh-append (bad s.routes ram p.mind) shift.stay v.made))
       (λ f b. omega (arith, shift.before (on_core f) (on_core-blind f b), on_core-none f v.made k.made, on_core-none f v.answered (omega (arith, k.answered)), on_core-none f v.absorbed (omega (arith, k.answered)), weigh-append (on_core f) ls (requests_of v.served), weigh-append (on_core f) shift.stay v.made)) in
-      let lead = serves_leads s.router.routes ram p.mind ms (all_packets t later) ls v.served p.memory (seen g.memory p.memory) es p.mapped p.size m.0 (k.serves p.memory p.size seen_now)
+      let lead = serves_leads s.routes ram p.mind ms (all_packets t later) ls v.served p.memory (seen g.memory p.memory) es p.mapped p.size m.0 (k.serves p.memory p.size seen_now)
       (λ f b. weigh-append f ls (requests_of v.served)) (λ f b. omega (arith, shift.after f b, weigh-append f shift.stay v.made)) in
       let program : IsProgram ram t later = record {
         cpu = p.cpu;
@@ -159,7 +159,7 @@ module _ (ram : ℕ) (s t : Sys) (items later : List Item) (q : ℕ) (w : Wake) 
       } in
       record {
         program = program;
-        replays = ap (λ x. replay s.router.routes x es) (state_is ram s items p ∙ m.1) ∙ (lead.leads.replays
+        replays = ap (λ x. replay s.routes x es) (state_is ram s items p ∙ m.1) ∙ (lead.leads.replays
             ∙ ap Some (sym (state_is ram t later program ∙ ap (λ r. state_with r p.mind (all_packets t later) (seen g.memory p.memory)) same.routes)));
       } where
         alone : (j : ℕ) → (j ≡ p.cpu → ⊥) → (j ≡ q) ⊎ (j ≡ q → ⊥) → (faces t j).mind ≡ None

@@ -8,7 +8,7 @@ use Rattle.ev_queue.specs.declared.slot.Slot.{Slot}
 use Rattle.ev_queue.specs.PendingList.{IsInServiceOrder, NoneBefore, is_before, first}
 use Rattle.gm_words.specs.Moves.{Moves, no_moves, joined, AreDrawn}
 use Rattle.gm_words.specs.Replay.{replay}
-use Rattle.gm_words.specs.Router.{Router}
+use Rattle.gm_words.specs.Routes.{Router}
 use Rattle.gm_words.specs.declared.entry.Entry.{Entry}
 use Rattle.gm_words.specs.declared.packet.Packet.{Packet}
 use Rattle.gm_words.specs.declared.wake.Wake.TheVariants as wakes
@@ -35,11 +35,11 @@ use Rattle.gm_system.proofs.Machines.{false_is, parts-taken_out, begun_sound, fi
 -- one after another
 pub replays_then : (s t u : Sys) (a b : List Entry) → IsWiredAlike s t → Replays s a t → Replays t b u → Replays s (a ++ b) u
 replays_then s t u a b w h k =
-    replay-append s.router.routes (program_state s []) (program_state t []) a b h
+    replay-append s.routes (program_state s []) (program_state t []) a b h
     ∙ (ap (λ (r : Router). replay r.routes (program_state t []) b) (sym w.router) ∙ k)
 
 pub nothing_replays : (s : Sys) → Replays s [] s
-nothing_replays s = no_entry s.router.routes (program_state s []) (program_state s []) refl
+nothing_replays s = no_entry s.routes (program_state s []) (program_state s []) refl
 
 pub drawn-append : (a b c : ℕ) (xs ys : List Packet) → AreDrawn a xs b → AreDrawn b ys c → AreDrawn a (xs ++ ys) c
 drawn-append a b c [] ys h k = subst (λ n. AreDrawn n ys c) h k
@@ -122,7 +122,7 @@ module _ (s : Sys) (table : List Slot) (n t : ℕ) (e : Due) (h : IsSteady s tab
   event_of = record {
     steady = fired_sound s table n t (Some e) h there;
     wiring = record { wires = k.wiring.wires; router = k.wiring.router };
-    replays = ap (λ es. replay s.router.routes (program_state s []) es) k.replayed.entries ∙ (k.replayed.replays ∙ ap (λ is. Some (program_state (event_delivered (taken_out s n t) e).sys is)) over);
+    replays = ap (λ es. replay s.routes (program_state s []) es) k.replayed.entries ∙ (k.replayed.replays ∙ ap (λ is. Some (program_state (event_delivered (taken_out s n t) e).sys is)) over);
     conserved = λ f i. omega (arith, k.conserved.same f i, ap (λ is. weigh f (all_packets (event_delivered (taken_out s n t) e).sys is)) over);
     drawn = drawn-append s.next (event_begun (taken_out s n t) e).sys.next (event_delivered (taken_out s n t) e).sys.next (step_at (taken_out s n t) e.owner.0 (wakes.Event e.slot)).moves.made (deliver_moves items_max (event_begun (taken_out s n t) e)).made
         (wake_bounded (record { sys = taken_out s n t; items = []; entries = [] }) table e.owner.0 (wakes.Event e.slot) (here h.ram s n t e h.sound h.parts.once there 120 h.parts.room) tt (parts-taken_out s table n t h.parts) tt).drawn

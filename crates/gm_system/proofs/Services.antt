@@ -9,7 +9,7 @@ use Rattle.rv_step.specs.FlatMem.{in_ram, ram_put}
 use Rattle.gm_words.specs.Packet.{with_front, is_response, carried_bytes}
 use Rattle.gm_words.specs.Platform.{is_in_ram}
 use Rattle.gm_words.specs.Replay.{ProgramState, is_of_memory, Progress, AtBoundary, Fetched, Accessed, Faulted, replay, replay_entry}
-use Rattle.gm_words.specs.Router.{Route, is_unmapped}
+use Rattle.gm_words.specs.Routes.{Route, is_unmapped}
 use Rattle.gm_words.specs.Entries.{ram_bytes, entry_bytes}
 use Rattle.gm_words.specs.Moves.{Service}
 use Rattle.gm_model.specs.View.{Mind, Doing, Boundary, Fetching, Decoded, Accessing, awaited, progress_of, is_of_hart}

@@ -13,7 +13,7 @@ use Rattle.rv_step.specs.Arch.{reset}
 use Rattle.gm_words.specs.Counts.{AreUpTo}
 use Rattle.gm_words.specs.Packet.{is_response}
 use Rattle.gm_words.specs.Platform.{Part, End, Range, platform, part_classes, slot_classes, is_within, is_in_ram, wires_of}
-use Rattle.gm_words.specs.Router.{Route, destination, is_unmapped, route_to, routes_of}
+use Rattle.gm_words.specs.Routes.{Route, destination, is_unmapped, route_to, routes_of}
 use Rattle.gm_words.specs.Slots.{gave_from, given_table}
 use Rattle.gm_words.specs.declared.kind.Kind.TheVariants as kinds
 use Rattle.gm_words.specs.declared.own.Own.TheVariants as owns

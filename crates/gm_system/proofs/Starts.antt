@@ -3,7 +3,7 @@ use Rattle.std.proofs.Common.{◌≡◌, ℕ, ◌≤◌, true, false, List, [], 
 use Rattle.std.proofs.lemmas.List.{append-nil}
 use Rattle.ev_queue.specs.PendingList.{is_pending}
 use Rattle.gm_words.specs.Platform.{is_in_ram}
-use Rattle.gm_words.specs.Router.{is_unmapped}
+use Rattle.gm_words.specs.Routes.{is_unmapped}
 use Rattle.gm_model.specs.Sys.{Sys, object_at, peer_in}
 use Rattle.gm_model.specs.View.{Mind, part_packets}
 use Rattle.gm_words.specs.declared.packet.Packet.{Packet}
@@ -24,10 +24,10 @@ pub record IsIdle (f : Face) : Type 0 where
 
 -- what a machine is at its start, and once it is drained
 pub record IsStill (ram : ℕ) (s : Sys) : Type 0 where
-  pub parts : (k : ℕ) → IsOk s.router.routes ram (object_at s k)
+  pub parts : (k : ℕ) → IsOk s.routes ram (object_at s k)
   pub idle : (k : ℕ) → IsIdle (faces s k)
   pub wired : IsWired (peer_in s.wires) (faces s)
-  pub routed : IsRouted s.router.routes (faces s) (length s.objects)
+  pub routed : IsRouted s.routes (faces s) (length s.objects)
   pub due : (k n : ℕ) → (faces s k).due n ≡ is_pending s.pending k n
   pub empty : part_packets s.objects ≡ []
   pub cpu : ℕ
@@ -41,7 +41,7 @@ pub record IsStill (ram : ℕ) (s : Sys) : Type 0 where
   pub kept : (faces s store).memory ≡ Some memory
   pub one_store : (k : ℕ) → (k ≡ store → ⊥) → (faces s k).memory ≡ None
   pub size : length memory ≡ ram
-  pub mapped : (address count : ℕ) → 1 ≤ count → is_in_ram ram address count ≡ true → is_unmapped s.router.routes address ≡ false
+  pub mapped : (address count : ℕ) → 1 ≤ count → is_in_ram ram address count ≡ true → is_unmapped s.routes address ≡ false
 
 pub still_sound : (ram : ℕ) (s : Sys) → IsStill ram s → IsSound ram s []
 still_sound ram s h =
@@ -75,7 +75,7 @@ still_sound ram s h =
         one_store = h.one_store;
         size = h.size;
         owes = omega (arith, none core, h.rests);
-        fits = none (bad s.router.routes ram h.mind);
+        fits = none (bad s.routes ram h.mind);
         at_once = λ u. ap (weigh core) h.empty;
         in_time = λ u. refl;
         mapped = h.mapped;

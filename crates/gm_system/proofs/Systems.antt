@@ -6,7 +6,7 @@ use Rattle.ev_queue.specs.PendingList.{is_pending}
 use Rattle.gm_model.specs.Deliver.{Item, Sent, Done, sent_by}
 use Rattle.gm_model.specs.ObjState.{ObjState, Blank}
 use Rattle.gm_model.specs.ObjectStep.{object_step}
-use Rattle.gm_words.specs.Router.{Route}
+use Rattle.gm_words.specs.Routes.{Route}
 use Rattle.gm_model.specs.Stepped.{Stepped}
 use Rattle.gm_words.specs.Changes.{changed, due_after}
 use Rattle.gm_model.specs.Sys.{Sys, object_at, peer_in, step_at, with_object}
@@ -91,14 +91,14 @@ placed-sent f n i (a ∷ rest) h = (h.0, placed-sent f n i rest h.1)
 
 -- before a wake: what is pending once its event, if it is one, is taken out
 pub record IsBefore (ram : ℕ) (s : Sys) (items : List Item) (d : Debt) (i : ℕ) (w : Wake) : Type 0 where
-  pub parts : (k : ℕ) → IsOk s.router.routes ram (object_at s k)
+  pub parts : (k : ℕ) → IsOk s.routes ram (object_at s k)
   pub wired : IsWired (peer_in s.wires) (faces s)
   pub net : Net (peer_in s.wires) (faces s) items d
   pub due : (n : ℕ) → due_before w ((faces s i).due n) n ≡ is_pending s.pending i n
   pub others : (k n : ℕ) → (k ≡ i → ⊥) → (faces s k).due n ≡ is_pending s.pending k n
   pub fired : (n : ℕ) → w ≡ wakes.Event (record { 0 = n }) → (faces s i).due n ≡ true
   pub sent : AllItemsOk items
-  pub routed : IsRouted s.router.routes (faces s) (length s.objects)
+  pub routed : IsRouted s.routes (faces s) (length s.objects)
   pub placed : IsPlaced (faces s) (length s.objects) items
 
 module _ (laws : WakesHold) (ram : ℕ) (s : Sys) (items : List Item) (i : ℕ) (w : Wake) (d e : Debt) (h : IsBefore ram s items d i w) (here : i < length s.objects)
@@ -106,8 +106,8 @@ module _ (laws : WakesHold) (ram : ℕ) (s : Sys) (items : List Item) (i : ℕ) 
   pub may : MayWake (faces s i) w
   may = may_wake (peer_in s.wires) (faces s) h.wired items i w (step_at s i w).answer d e h.net pays h.fired
 
-  pub keeps : Keeps s.router.routes ram (faces s i) w (step_at s i w)
-  keeps = laws s.router.routes ram (object_at s i) s.next w s.tick (h.parts i) may
+  pub keeps : Keeps s.routes ram (faces s i) w (step_at s i w)
+  keeps = laws s.routes ram (object_at s i) s.next w s.tick (h.parts i) may
 
 -- a part is put in another state, with changes to its events
 abbrev pub put : Sys → ℕ → Stepped → Sys
@@ -126,7 +126,7 @@ pub net_part : (rs : List Route) (ram : ℕ) (f : Face) (w : Wake) (r : Stepped)
 net_part rs ram f w r h = record { ok = h.ok; law = h.law; due = h.due; acts = h.acts; hops = h.hops; instant = h.same.instant }
 
 module _ (ram : ℕ) (s : Sys) (items : List Item) (i : ℕ) (w : Wake) (r : Stepped) (d e : Debt) (h : IsBefore ram s items d i w) (here : i < length s.objects)
-    (ks : NetKeeps s.router.routes ram (faces s i) w r) (pays : Pays (peer_in s.wires) (faces s) i w r.answer d e) where
+    (ks : NetKeeps s.routes ram (faces s i) w r) (pays : Pays (peer_in s.wires) (faces s) i w r.answer d e) where
   pub at_same : object_at (put s i r) i ≡ r.state
   at_same = get_or-set_same s.objects i r.state (Blank kinds.AtomicCpu) here
 
@@ -190,6 +190,6 @@ module _ (ram : ℕ) (s : Sys) (items : List Item) (i : ℕ) (w : Wake) (r : Ste
         (placed-change (faces s) (faces (put s i r)) (length s.objects) (length (set s.objects i r.state)) instants_same (length-set s.objects i r.state) items h.placed)
         (placed-sent (faces (put s i r)) (length (set s.objects i r.state)) i r.acts (hops-change (faces s i) (faces (put s i r) i) (instants_same i) r.acts ks.hops));
   } where
-    part : (k : ℕ) → (k ≡ i) ⊎ (k ≡ i → ⊥) → IsOk s.router.routes ram (object_at (put s i r) k)
-    part k (inl c) = subst (λ j. IsOk s.router.routes ram (object_at (put s i r) j)) (sym c) (subst (IsOk s.router.routes ram) (sym at_same) ks.ok)
-    part k (inr n) = subst (IsOk s.router.routes ram) (sym (at_other k n)) (h.parts k)
+    part : (k : ℕ) → (k ≡ i) ⊎ (k ≡ i → ⊥) → IsOk s.routes ram (object_at (put s i r) k)
+    part k (inl c) = subst (λ j. IsOk s.routes ram (object_at (put s i r) j)) (sym c) (subst (IsOk s.routes ram) (sym at_same) ks.ok)
+    part k (inr n) = subst (IsOk s.routes ram) (sym (at_other k n)) (h.parts k)

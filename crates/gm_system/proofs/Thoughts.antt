@@ -13,7 +13,7 @@ use Rattle.gm_words.specs.HartLine.{with_line}
 use Rattle.gm_words.specs.Packet.{is_response}
 use Rattle.gm_words.specs.Platform.{is_in_ram}
 use Rattle.gm_words.specs.Replay.{ProgramState, Progress, AtBoundary, Fetched, Accessed, Faulted, replay, replay_entry, same_bytes}
-use Rattle.gm_words.specs.Router.{Route, is_unmapped}
+use Rattle.gm_words.specs.Routes.{Route, is_unmapped}
 use Rattle.gm_model.specs.View.{Mind, Doing, Boundary, Fetching, Decoded, Accessing, is_of_hart, awaited, progress_of}
 use Rattle.gm_words.specs.declared.cmd.Cmd.{Cmd}
 use Rattle.gm_words.specs.declared.cmd.Cmd.TheVariants as cmds

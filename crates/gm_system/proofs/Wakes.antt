@@ -5,7 +5,7 @@ use Rattle.gm_model.specs.Deliver.{Item, sent_by}
 use Rattle.gm_words.specs.HartLine.{is_line}
 use Rattle.gm_model.specs.ObjState.{Blank}
 use Rattle.gm_words.specs.Packet.{is_response}
-use Rattle.gm_words.specs.Router.{Route}
+use Rattle.gm_words.specs.Routes.{Route}
 use Rattle.gm_model.specs.Stepped.{Stepped}
 use Rattle.gm_words.specs.Moves.{Service}
 use Rattle.gm_model.specs.Sys.{Sys, object_at, step_at, woken, peer_in}
@@ -71,7 +71,7 @@ module _ (laws : WakesHold) (ram : ℕ) (s : Sys) (before rest : List Item) (i :
   later : List Item
   later = rest ++ sent_by i (step_at s i w).acts
 
-  k : Keeps s.router.routes ram (faces s i) w (step_at s i w)
+  k : Keeps s.routes ram (faces s i) w (step_at s i w)
   k = keeps laws ram s rest i w d Clear b here pays
 
   all_now : (f : Packet → ℕ) → weigh f (all_packets s before) ≡ weigh f (part_packets s.objects) + weigh f (item_packets before)
@@ -98,10 +98,10 @@ module _ (laws : WakesHold) (ram : ℕ) (s : Sys) (before rest : List Item) (i :
     after = λ f e. omega (arith, all_later f, parts_later f, parts_others f, k.conserves.after f e, weigh-append f k.conserves.kept (part_packets (set s.objects i (Blank kinds.AtomicCpu)) ++ item_packets rest), weigh-append f (part_packets (set s.objects i (Blank kinds.AtomicCpu))) (item_packets rest));
   }
 
-  may_think : MayThink s.router.routes ram p.mind (faces s i) w
+  may_think : MayThink s.routes ram p.mind (faces s i) w
   may_think = record {
-    held = omega (arith, p.fits, all_now (bad s.router.routes ram p.mind), part_le (bad s.router.routes ram p.mind) s.objects i (Blank kinds.AtomicCpu) here);
-    shows = omega (arith, p.fits, all_now (bad s.router.routes ram p.mind), c.popped (bad s.router.routes ram p.mind) answers.Nothing);
+    held = omega (arith, p.fits, all_now (bad s.routes ram p.mind), part_le (bad s.routes ram p.mind) s.objects i (Blank kinds.AtomicCpu) here);
+    shows = omega (arith, p.fits, all_now (bad s.routes ram p.mind), c.popped (bad s.routes ram p.mind) answers.Nothing);
     owned = λ e. omega (arith, p.owes, all_now core, part_le core s.objects i (Blank kinds.AtomicCpu) here, c.popped core answers.Nothing);
     foreign = λ e u. omega (arith, c.done (no_mind e) answers.Nothing, p.senders);
     done = λ e x l o. omega (arith, (c.is_done x l o).1, c.done (no_mind e) answers.Nothing, p.senders);
@@ -127,10 +127,10 @@ module _ (laws : WakesHold) (ram : ℕ) (s : Sys) (before rest : List Item) (i :
     instants = λ j. by_instant j (cases_eq j i);
   } where
     same : object_at (woken s i w) i ≡ (step_at s i w).state
-    same = at_same ram s rest i w (step_at s i w) d Clear b here (net_part s.router.routes ram (faces s i) w (step_at s i w) k) pays
+    same = at_same ram s rest i w (step_at s i w) d Clear b here (net_part s.routes ram (faces s i) w (step_at s i w) k) pays
 
     other : (j : ℕ) → (j ≡ i → ⊥) → object_at (woken s i w) j ≡ object_at s j
-    other = at_other ram s rest i w (step_at s i w) d Clear b here (net_part s.router.routes ram (faces s i) w (step_at s i w) k) pays
+    other = at_other ram s rest i w (step_at s i w) d Clear b here (net_part s.routes ram (faces s i) w (step_at s i w) k) pays
 
     by_cpu : (j : ℕ) → (j ≡ i) ⊎ (j ≡ i → ⊥) → (faces (woken s i w) j).cpu ≡ (faces s j).cpu
     by_cpu j (inl e) = subst (λ q. (faces (woken s i w) q).cpu ≡ (faces s q).cpu) (sym e) (ap (λ o. (face_of o).cpu) same ∙ k.same.cpu)
@@ -140,7 +140,7 @@ module _ (laws : WakesHold) (ram : ℕ) (s : Sys) (before rest : List Item) (i :
     by_instant j (inl e) = subst (λ q. (faces (woken s i w) q).instant ≡ (faces s q).instant) (sym e) (ap (λ o. (face_of o).instant) same ∙ k.same.instant)
     by_instant j (inr n) = ap (λ o. (face_of o).instant) (other j n)
 
-  quiet : (i ≡ p.cpu → ⊥) → Mindless s.router.routes ram (faces s i) (face_of (step_at s i w).state) (step_at s i w).acts (step_at s i w).entries (step_at s i w).moves
+  quiet : (i ≡ p.cpu → ⊥) → Mindless s.routes ram (faces s i) (face_of (step_at s i w).state) (step_at s i w).acts (step_at s i w).entries (step_at s i w).moves
   quiet n = k.mindless p.mind (p.alone i n) may_think
 
   active : i ≡ p.cpu → Thinks ram p.mind (faces s i) (face_of (step_at s i w).state) (step_at s i w).acts (step_at s i w).entries (step_at s i w).moves
@@ -154,7 +154,7 @@ module _ (laws : WakesHold) (ram : ℕ) (s : Sys) (before rest : List Item) (i :
         omega (arith, parts_later core, p.at_once u, ap (weigh core) g)
     by (inr n) =
         let q = quiet n in
-        let sv = responses_core s.router.routes p.memory (seen (face_of (step_at s i w).state).memory p.memory) (step_at s i w).moves.served (step_at s i w).entries (q.serves p.memory p.size (seen_by ram s before p i)) in
+        let sv = responses_core s.routes p.memory (seen (face_of (step_at s i w).state).memory p.memory) (step_at s i w).moves.served (step_at s i w).entries (q.serves p.memory p.size (seen_by ram s before p i)) in
         omega (arith, parts_later core, p.at_once u, part_le core s.objects i (Blank kinds.AtomicCpu) here, k.conserves.before core core_blind, k.conserves.after core core_blind, q.made, sv, c.done n (step_at s i w).answer, p.senders)
 
   in_time : (faces s p.cpu).instant ≡ false → weigh core (item_packets (rest ++ sent_by i (step_at s i w).acts)) ≡ 0
@@ -171,7 +171,7 @@ module _ (laws : WakesHold) (ram : ℕ) (s : Sys) (before rest : List Item) (i :
 
   pub wake_keeps : Woke ram s before rest i w
   wake_keeps = record {
-    net = net_kept ram s rest i w (step_at s i w) d Clear b here (net_part s.router.routes ram (faces s i) w (step_at s i w) k) pays;
+    net = net_kept ram s rest i w (step_at s i w) d Clear b here (net_part s.routes ram (faces s i) w (step_at s i w) k) pays;
     step = program_step ram s (woken s i w) before (rest ++ sent_by i (step_at s i w).acts) i w (face_of (step_at s i w).state) (step_at s i w).acts (step_at s i w).entries (step_at s i w).moves p same_else shift may_think
         (λ e. k.mindless p.mind e may_think) (λ e. k.thinks p.mind e may_think) at_once in_time senders;
     same = λ h e u. omega (arith, shift.before h e, shift.after h e, k.conserves.numbers h u, weigh-append h (step_at s i w).moves.answered (step_at s i w).moves.absorbed);

@@ -16,7 +16,7 @@ use Rattle.gm_system.specs.System.{IsById, IsWiredAlike}
 
 -- what was noted on the way from one machine to another is right over the program's state, and leads from the one's to the other's
 abbrev pub Replays : Sys → List Entry → Sys → Type 0
-Replays s noted t = replay s.router.routes (program_state s []) noted ≡ Some (program_state t [])
+Replays s noted t = replay s.routes (program_state s []) noted ≡ Some (program_state t [])
 
 -- what a run from s noted is right, and it is still the same machine
 pub record IsRunReplayed (s : Sys) (r : Ran) : Type 0 where

@@ -4,7 +4,7 @@ use Rattle.std.specs.Prelude.{◌≡◌, ℕ, ◌+◌, ◌<◌, ◌≤◌, ◌==
 use Rattle.ev_queue.specs.PendingList.{is_pending}
 use Rattle.gm_model.specs.Deliver.{Item, Sent, Done, Delivery}
 use Rattle.gm_words.specs.Moves.{Moves}
-use Rattle.gm_words.specs.Router.{Route, destination, is_unmapped}
+use Rattle.gm_words.specs.Routes.{Route, destination, is_unmapped}
 use Rattle.gm_words.specs.Platform.{is_in_ram, End}
 use Rattle.gm_words.specs.Replay.{replay}
 use Rattle.gm_model.specs.Sys.{Sys, object_at, peer_in}
@@ -37,12 +37,12 @@ IsRouted rs f n = (x : Packet) (k : ℕ) → destination rs x.addr ≡ Some k �
 
 -- what holds of the ports and of the pending events, also in the middle of an item
 pub record IsNet (ram : ℕ) (s : Sys) (items : List Item) (d : Debt) : Type 0 where
-  pub parts : (k : ℕ) → IsOk s.router.routes ram (object_at s k)
+  pub parts : (k : ℕ) → IsOk s.routes ram (object_at s k)
   pub wired : IsWired (peer_in s.wires) (faces s)
   pub net : Net (peer_in s.wires) (faces s) items d
   pub due : (k n : ℕ) → (faces s k).due n ≡ is_pending s.pending k n
   pub sent : AllItemsOk items
-  pub routed : IsRouted s.router.routes (faces s) (length s.objects)
+  pub routed : IsRouted s.routes (faces s) (length s.objects)
   pub placed : IsPlaced (faces s) (length s.objects) items
 
 -- the packets that are passed at once by others than the part c
@@ -64,10 +64,10 @@ pub record IsProgram (ram : ℕ) (s : Sys) (items : List Item) : Type 0 where
   pub one_store : (k : ℕ) → (k ≡ store → ⊥) → (faces s k).memory ≡ None
   pub size : length memory ≡ ram
   pub owes : weigh core (all_packets s items) ≡ owed mind.doing
-  pub fits : weigh (bad s.router.routes ram mind) (all_packets s items) ≡ 0
+  pub fits : weigh (bad s.routes ram mind) (all_packets s items) ≡ 0
   pub at_once : (faces s cpu).instant ≡ true → weigh core (part_packets s.objects) ≡ 0
   pub in_time : (faces s cpu).instant ≡ false → weigh core (item_packets items) ≡ 0
-  pub mapped : (address count : ℕ) → 1 ≤ count → is_in_ram ram address count ≡ true → is_unmapped s.router.routes address ≡ false
+  pub mapped : (address count : ℕ) → 1 ≤ count → is_in_ram ram address count ≡ true → is_unmapped s.routes address ≡ false
   pub senders : weigh core (others_packets cpu items) ≡ 0
 
 -- the machine in the middle of an event, with these items still to be delivered, or between two events
@@ -82,7 +82,7 @@ fuel_of s items = sum_by (λ o. busy (face_of o)) s.objects + weight_of items
 pub record IsReplayed (d e : Delivery) : Type 0 where
   pub noted : List Entry
   pub entries : e.entries ≡ d.entries ++ noted
-  pub replays : replay d.sys.router.routes (program_state d.sys d.items) noted ≡ Some (program_state e.sys e.items)
+  pub replays : replay d.sys.routes (program_state d.sys d.items) noted ≡ Some (program_state e.sys e.items)
 
 -- no packet is lost or doubled: by each count of packet numbers, what there is and ended is what there was and was made
 abbrev pub IsById : (Packet → ℕ) → Type 0

@@ -1,4 +1,4 @@
--- What a part has to send from one port: the packets in order, and how the first of them stands.
+-- What a part has to send from one port: the packets in order, how the first of them stands, and who waits for room.
 -- This project's own rule, after request and response ports whose receiver may refuse.
 use Rattle.std.specs.Prelude.{ℕ, List, []}
 use Rattle.gm_words.specs.declared.packet.Packet.{Packet}
@@ -22,3 +22,11 @@ pub record Flow : Type 0 where
 -- with nothing to send
 abbrev pub quiet_flow : Flow
 quiet_flow = record { items = []; out = Quiet }
+
+-- a flow, and the ports that wait for room in it, first come first
+pub record Lane : Type 0 where
+  pub flow : Flow
+  pub waiting : List ℕ
+
+abbrev pub empty_lane : Lane
+empty_lane = record { flow = quiet_flow; waiting = [] }

@@ -1,6 +1,7 @@
 pub mod Packet
 pub mod Moves
 pub mod Kind
+pub mod PortUses
 pub mod Platform
 pub mod Flow
 pub mod Changes
@@ -11,5 +12,5 @@ pub mod HartLine
 pub mod Allowed
 pub mod Entries
 pub mod Counts
-pub mod Router
+pub mod Routes
 pub mod Replay

@@ -11,7 +11,7 @@ use Rattle.rv_step.specs.Retire.{finish}
 use Rattle.rv_step.specs.Trap.{enter_trap, interrupt_cause, instruction_access, load_access, store_access}
 use Rattle.gm_words.specs.HartLine.{with_line, is_line}
 use Rattle.gm_words.specs.Platform.{fetch_source, data_source, dma_source}
-use Rattle.gm_words.specs.Router.{Route, is_unmapped}
+use Rattle.gm_words.specs.Routes.{Route, is_unmapped}
 use Rattle.gm_words.specs.Entries.{entry_bytes, ram_bytes}
 use Rattle.gm_words.specs.declared.entry.Entry.{Entry}
 use Rattle.gm_words.specs.declared.entry.Entry.TheVariants as entries

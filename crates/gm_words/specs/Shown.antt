@@ -18,4 +18,5 @@ part_shown p = record {
   own = p.own;
   range = option_map range_shown p.range;
   peers = map end_shown p.peers.items;
+  ways = map end_shown p.ways.items;
 }

@@ -75,10 +75,10 @@ impl Own {
         ensures { result.now ≡ slot_classes (kind_of_own self.now) }
     {
         match self {
-            Own::AtomicCpu { .. } => &[50],
+            Own::AtomicCpu { .. } | Own::TimingCpu { .. } => &[50],
             Own::Mem { .. } | Own::Exit { .. } => &[30],
             Own::Uart { .. } | Own::Timer { .. } => &[30, 30],
-            Own::TimingCpu { .. } | Own::Xbar { .. } | Own::Cache { .. } | Own::Dma { .. } => &[],
+            Own::Xbar { .. } | Own::Cache { .. } | Own::Dma { .. } => &[],
         }
     }
 }

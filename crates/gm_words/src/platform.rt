@@ -1,10 +1,11 @@
 // The platform as one table: the parts of a machine in the order of their paths.
 ghost use Rattle.std.specs.Prelude.{◌≡◌, ◌+◌, ◌-◌, ◌≤◌, map, IfOk};
 ghost use Rattle.cfg_tree.specs.Valid.{IsValidConfig};
-ghost use Rattle.gm_words.specs.Platform.{platform, range_of};
-ghost use Rattle.gm_words.specs.Shown.{part_shown, range_shown};
+ghost use Rattle.gm_words.specs.Platform.{platform, range_of, port_at, out_to, corebus_ports, membus_ports};
+ghost use Rattle.gm_words.specs.Shown.{part_shown, range_shown, end_shown};
 
 use crate::own::Own;
+use crate::port_use::PortUse;
 use cfg_tree::Config;
 use gc_base::{NoMemory, ObjId, PortNo};
 use std::alloc::Global;
@@ -28,7 +29,7 @@ pub const DEVICE_BYTES: u64 = 0x1000;
 pub const TIMER_BYTES: u64 = 0x1_0000;
 
 /// How many parts a machine has.
-pub const PARTS: usize = 5;
+pub const PARTS: usize = 8;
 
 /// The addresses from the first to the last.
 #[derive(Clone, Copy, Debug, PartialEq, Eq)]
@@ -54,6 +55,8 @@ pub struct Part {
     pub range: Option<Range>,
     /// For each of its ports the peer.
     pub peers: Vec<End>,
+    /// For each port of a part whose packets are passed at once where they come in.
+    pub ways: Vec<End>,
 }
 
 /// So many bytes from a first address on.
@@ -68,7 +71,64 @@ fn bytes_from(first: u64, bytes: u64) -> Range
     }
 }
 
-/// The parts of the machine of a configuration, in the order of their paths.
+/// Requests to a range go out.
+fn out_to(range: Range) -> PortUse
+    ensures { result ≡ out_to (range_shown range) }
+{
+    PortUse::Destination {
+        first: range.first,
+        last: range.last,
+    }
+}
+
+/// The ports of `corebus`: fetches, data accesses, a DMA engine's, which there is none yet, and one for all addresses.
+fn corebus_ports() -> [PortUse; 8]
+    ensures { result ≡ corebus_ports }
+{
+    let everywhere = PortUse::Destination {
+        first: 0,
+        last: u64::MAX,
+    };
+    [
+        PortUse::Source,
+        PortUse::Source,
+        PortUse::Unused,
+        everywhere,
+        PortUse::Unused,
+        PortUse::Unused,
+        PortUse::Unused,
+        PortUse::Unused,
+    ]
+}
+
+/// The ports of `membus`: its source, memory, UART, timer, exit device, and a DMA engine's registers, which there are none yet.
+fn membus_ports(c: &Config) -> [PortUse; 8]
+    requires { IsValidConfig c.now }
+    ensures { result ≡ membus_ports c.now }
+{
+    [
+        PortUse::Source,
+        out_to(bytes_from(RAM_BASE, c.system_ram)),
+        out_to(bytes_from(UART_BASE, DEVICE_BYTES)),
+        out_to(bytes_from(TIMER_BASE, TIMER_BYTES)),
+        out_to(bytes_from(EXIT_BASE, DEVICE_BYTES)),
+        PortUse::Destination { first: 1, last: 0 },
+        PortUse::Unused,
+        PortUse::Unused,
+    ]
+}
+
+/// A port of a part, by their numbers.
+fn port_at(part: u8, port: u8) -> End
+    ensures { end_shown result ≡ port_at part port }
+{
+    End {
+        part: ObjId(part),
+        port: PortNo(port),
+    }
+}
+
+/// The parts of the machine of a configuration, in the order of their paths. A port that has no peer is its own.
 pub fn parts(alloc: Global, c: &Config) -> Result<Vec<Part>, NoMemory>
     requires { IsValidConfig c.now }
     ensures { IfOk result (λ ps. map part_shown ps.items ≡ platform c.now) }
@@ -81,6 +141,17 @@ pub fn parts(alloc: Global, c: &Config) -> Result<Vec<Part>, NoMemory>
         },
         range: None,
         peers: Vec::new(alloc),
+        ways: Vec::from_array(alloc, [port_at(1, 0), port_at(1, 1)])?,
+    });
+    parts.push_reserved(Part {
+        path: "corebus",
+        own: Own::Xbar {
+            latency: c.corebus_latency,
+            ports: corebus_ports(),
+        },
+        range: None,
+        peers: Vec::from_array(alloc, [port_at(5, 0), port_at(5, 1), port_at(1, 2), port_at(4, 0)])?,
+        ways: Vec::new(alloc),
     });
     parts.push_reserved(Part {
         path: "exit",
@@ -88,7 +159,8 @@ pub fn parts(alloc: Global, c: &Config) -> Result<Vec<Part>, NoMemory>
             latency: c.exit_latency,
         },
         range: Some(bytes_from(EXIT_BASE, DEVICE_BYTES)),
-        peers: Vec::new(alloc),
+        peers: Vec::from_array(alloc, [port_at(4, 4)])?,
+        ways: Vec::new(alloc),
     });
     parts.push_reserved(Part {
         path: "mem",
@@ -97,7 +169,37 @@ pub fn parts(alloc: Global, c: &Config) -> Result<Vec<Part>, NoMemory>
             queue: c.mem_queue,
         },
         range: Some(bytes_from(RAM_BASE, c.system_ram)),
-        peers: Vec::new(alloc),
+        peers: Vec::from_array(alloc, [port_at(4, 1)])?,
+        ways: Vec::new(alloc),
+    });
+    parts.push_reserved(Part {
+        path: "membus",
+        own: Own::Xbar {
+            latency: c.membus_latency,
+            ports: membus_ports(c),
+        },
+        range: None,
+        peers: Vec::from_array(
+            alloc,
+            [
+                port_at(1, 3),
+                port_at(3, 0),
+                port_at(7, 0),
+                port_at(6, 0),
+                port_at(2, 0),
+                port_at(4, 5),
+            ],
+        )?,
+        ways: Vec::new(alloc),
+    });
+    parts.push_reserved(Part {
+        path: "tcpu",
+        own: Own::TimingCpu {
+            period: c.cpu_period,
+        },
+        range: None,
+        peers: Vec::from_array(alloc, [port_at(1, 0), port_at(1, 1)])?,
+        ways: Vec::new(alloc),
     });
     parts.push_reserved(Part {
         path: "timer",
@@ -106,7 +208,8 @@ pub fn parts(alloc: Global, c: &Config) -> Result<Vec<Part>, NoMemory>
             period: c.timer_period,
         },
         range: Some(bytes_from(TIMER_BASE, TIMER_BYTES)),
-        peers: Vec::new(alloc),
+        peers: Vec::from_array(alloc, [port_at(4, 3)])?,
+        ways: Vec::new(alloc),
     });
     parts.push_reserved(Part {
         path: "uart",
@@ -115,7 +218,8 @@ pub fn parts(alloc: Global, c: &Config) -> Result<Vec<Part>, NoMemory>
             chartime: c.uart_chartime,
         },
         range: Some(bytes_from(UART_BASE, DEVICE_BYTES)),
-        peers: Vec::new(alloc),
+        peers: Vec::from_array(alloc, [port_at(4, 2)])?,
+        ways: Vec::new(alloc),
     });
     Ok(parts)
 }

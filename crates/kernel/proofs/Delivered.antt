@@ -3,7 +3,7 @@ use Rattle.std.proofs.Common.{◌≡◌, ℕ, suc, zero, ◌+◌, ◌-◌, ◌<�
 use Rattle.std.proofs.lemmas.Bool.{cases_lt, eqb-true}
 use Rattle.std.proofs.lemmas.List.{length-append}
 use Rattle.ev_queue.specs.declared.slot.Slot.{Slot}
-use Rattle.gm_words.specs.Router.{destination}
+use Rattle.gm_words.specs.Routes.{destination}
 use Rattle.gm_model.specs.Sys.{Sys, step_at}
 use Rattle.gm_words.specs.Platform.{End}
 use Rattle.gm_words.specs.declared.answer.Answer.{Answer}
@@ -115,7 +115,7 @@ told_later d e i latency p f = record { count = 0; enough = omega arith; deliver
 
 -- the first item is a packet, which was passed on: `after` is the machine before its sender is told
 module _ (d : Delivery) (table : List Slot) (i : ℕ) (port : PortNo) (p : Packet) (is : List Item) (e : d.items ≡ Sent i (acts.Atomic port p) ∷ is) (h : IsUnderWay d table)
-    (after : Delivery) (q : Packet) (latency : ℕ) (m : done_at after i q latency ≡ deliver_atomic (record d { items = is }) i p (destination d.sys.router.routes p.addr)) where
+    (after : Delivery) (q : Packet) (latency : ℕ) (m : done_at after i q latency ≡ deliver_atomic (record d { items = is }) i p (destination d.sys.routes p.addr)) where
   passed_first : done_at after i q latency ≡ deliver_first d d.items
   passed_first = m ∙ sym (ap (λ xs. deliver_first d xs) e)
 

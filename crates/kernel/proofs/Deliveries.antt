@@ -1,7 +1,7 @@
 -- What deliveries leave of a machine, whichever they are.
 use Rattle.std.proofs.Common.{◌≡◌, ℕ, suc, zero, ◌+◌, ◌≤◌, length, refl, sym, ◌∙◌, ap, subst, arith, List, [], ◌∷◌, ◌++◌, Option, Some, None}
 use Rattle.std.proofs.lemmas.List.{length-append}
-use Rattle.gm_words.specs.Router.{destination}
+use Rattle.gm_words.specs.Routes.{destination}
 use Rattle.gm_words.specs.Platform.{End}
 use Rattle.gm_model.specs.Sys.{active_cpu, pass_at, peer_in, step_at}
 use Rattle.gm_model.specs.Deliver.{Item, Sent, Done, Delivery, handle, deliver, deliver_first, deliver_wake, deliver_line, deliver_atomic, told_wake, sent_by, way_latency}
@@ -18,7 +18,7 @@ counts_kept d (Sent j (acts.SetLine bit level)) = by_cpu (active_cpu d.sys.objec
   by_cpu : (o : Option ℕ) → (deliver_line d (wakes.Line bit level) o).sys.counts ≡ d.sys.counts
   by_cpu None = refl
   by_cpu (Some i) = refl
-counts_kept d (Sent j (acts.Atomic port p)) = by_route (destination d.sys.router.routes p.addr) where
+counts_kept d (Sent j (acts.Atomic port p)) = by_route (destination d.sys.routes p.addr) where
   by_route : (o : Option ℕ) → (deliver_atomic d j p o).sys.counts ≡ d.sys.counts
   by_route None = refl
   by_route (Some i) = refl
@@ -47,7 +47,7 @@ handle_least d (Sent j (acts.SetLine bit level)) = by_cpu (active_cpu d.sys.obje
   by_cpu : (o : Option ℕ) → length d.items ≤ length (deliver_line d (wakes.Line bit level) o).items
   by_cpu None = omega arith
   by_cpu (Some i) = wake_least d i (wakes.Line bit level)
-handle_least d (Sent j (acts.Atomic port p)) = by_route (destination d.sys.router.routes p.addr) where
+handle_least d (Sent j (acts.Atomic port p)) = by_route (destination d.sys.routes p.addr) where
   by_route : (o : Option ℕ) → length d.items ≤ length (deliver_atomic d j p o).items
   by_route None = omega (arith, length-append d.items (Done j (fault_response p p.cmd) d.sys.router.latency ∷ []))
   by_route (Some i) =

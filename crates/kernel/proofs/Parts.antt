@@ -5,7 +5,7 @@ use Rattle.std.proofs.lemmas.List.{get_or-map, length-map, map-set}
 use Rattle.ev_queue.specs.Queue.{Queue}
 use Rattle.gm_words.specs.Counts.{Counts}
 use Rattle.gm_words.specs.Platform.{End}
-use Rattle.gm_words.specs.Router.{Router}
+use Rattle.gm_words.specs.Routes.{Router}
 use Rattle.gm_model.specs.ObjState.{ObjState, Blank, object_of}
 use Rattle.gm_model.specs.ObjectStep.{object_step, atomic_step}
 use Rattle.gm_model.specs.Command.{arch_of}

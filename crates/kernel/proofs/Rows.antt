@@ -6,7 +6,7 @@ use Rattle.std.proofs.Math.Seq.{drop-cons}
 use Rattle.std.proofs.lemmas.List.{append_assoc, append-nil, get_or-map, length-map}
 use Rattle.gm_words.specs.Kind.{kind_of_own}
 use Rattle.gm_words.specs.Platform.{Part, part_classes, wires_of}
-use Rattle.gm_words.specs.Router.{Route, route_to, routes_of}
+use Rattle.gm_words.specs.Routes.{Route, route_to, routes_of}
 use Rattle.gm_words.specs.Shown.{end_shown, part_shown}
 use Rattle.gm_words.specs.declared.platform.End.{End as KeptEnd}
 use Rattle.gm_words.specs.declared.kind.Kind.{Kind}

@@ -8,7 +8,7 @@ use Rattle.gc_base.specs.declared.ids.PortNo.{PortNo}
 use Rattle.gm_words.specs.Allowed.{MayCome}
 use Rattle.gm_words.specs.Counts.{Counts, IsCountedUpTo}
 use Rattle.gm_words.specs.Platform.{End}
-use Rattle.gm_words.specs.Router.{destination}
+use Rattle.gm_words.specs.Routes.{destination}
 use Rattle.gm_words.specs.declared.act.Act.TheVariants as acts
 use Rattle.gm_words.specs.declared.packet.Packet.{Packet}
 use Rattle.gm_words.specs.declared.wake.Wake.{Wake}
@@ -53,9 +53,9 @@ pub pass_ready : (d : Delivery) (table : List Slot) (i : ℕ) (port : PortNo) (p
 pass_ready d table i port p is e h = record {
   size = (first_fits d table h.sound (Sent i (acts.Atomic port p)) is e).0;
   way = h.sound.parts.way;
-  server = by_route (destination d.sys.router.routes p.addr) (λ k r. server_ready k r);
+  server = by_route (destination d.sys.routes p.addr) (λ k r. server_ready k r);
 } where
-  server_ready : (k : ℕ) → destination d.sys.router.routes p.addr ≡ Some k → IsReadyForPacket (record d { items = is }) table k p
+  server_ready : (k : ℕ) → destination d.sys.routes p.addr ≡ Some k → IsReadyForPacket (record d { items = is }) table k p
   server_ready k r =
       let l : k < length d.sys.objects = pass_there d table k p h.sound r in
       record {

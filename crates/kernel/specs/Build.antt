@@ -10,7 +10,7 @@ use Rattle.gm_words.specs.Counts.{no_counts}
 use Rattle.gm_words.specs.Kind.{kind_of_own}
 use Rattle.gm_model.specs.ObjState.{ObjState, kind_of, IsBlank}
 use Rattle.gm_words.specs.Platform.{Part, part_classes, platform, wires_of}
-use Rattle.gm_words.specs.Router.{router_of}
+use Rattle.gm_words.specs.Routes.{router_of}
 use Rattle.gm_model.specs.Command.{with_arch}
 use Rattle.gm_model.specs.Start.{built_object}
 use Rattle.gm_model.specs.Sys.{Sys}

@@ -6,7 +6,7 @@ use Rattle.ev_queue.specs.declared.due.Due.{Due}
 use Rattle.ev_queue.specs.declared.slot.Slot.{Slot}
 use Rattle.gm_words.specs.Allowed.{MayCome, MayPass}
 use Rattle.gm_words.specs.Platform.{End}
-use Rattle.gm_words.specs.Router.{destination}
+use Rattle.gm_words.specs.Routes.{destination}
 use Rattle.gm_words.specs.declared.packet.Packet.{Packet}
 use Rattle.gm_words.specs.declared.wake.Wake.{Wake}
 use Rattle.gm_words.specs.declared.wake.Wake.TheVariants as wakes
@@ -43,7 +43,7 @@ pub record IsReadyForPacket (d : Delivery) (table : List Slot) (i : ℕ) (p : Pa
 pub record MayGoOn (d : Delivery) (table : List Slot) (p : Packet) : Type 0 where
   pub size : p.size ≤ 64
   pub way : d.sys.router.latency ≤ 2 * LATENCY_MAX
-  pub server : IfSome (destination d.sys.router.routes p.addr) (λ k. IsReadyForPacket d table k p)
+  pub server : IfSome (destination d.sys.routes p.addr) (λ k. IsReadyForPacket d table k p)
 
 -- there is room for what one call asks for
 abbrev pub HasItemRoom : Delivery → Type 0

@@ -1,6 +1,6 @@
 -- The private router as contracts see it: the routes of the model.
 use Rattle.std.specs.Prelude.{List, map}
-use Rattle.gm_words.specs.Router.{Route}
+use Rattle.gm_words.specs.Routes.{Route}
 use Rattle.kernel.specs.declared.router.Route.{Route as KeptRoute}
 
 -- a route as the model has it

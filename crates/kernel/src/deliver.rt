@@ -5,7 +5,7 @@ ghost use Rattle.std.specs.Option.{option_map};
 ghost use Rattle.gc_base.specs.declared.limits.TheConstants.{LATENCY_MAX};
 ghost use Rattle.gm_model.specs.Deliver.{deliver_wake, deliver_passed, done_at, deliver_atomic, deliver_line, deliver_offer, told_wake, way_latency};
 ghost use Rattle.gm_words.specs.Packet.{fault_response};
-ghost use Rattle.gm_words.specs.Router.{destination};
+ghost use Rattle.gm_words.specs.Routes.{destination};
 ghost use Rattle.gm_model.specs.Sys.{active_cpu, pass_at, peer_in, step_at};
 ghost use Rattle.gm_words.specs.declared.wake.Wake.TheVariants.{Line, AtomicDone};
 ghost use Rattle.kernel.specs.Ready.{IsReadyForWake, IsReadyForPacket, MayGoOn, HasItemRoom, IsUnderWay, Delivers, MayOffer};
@@ -222,7 +222,7 @@ impl Machine {
         requires allowed { MayGoOn (delivery_of state self.old) self.old.queue.table packet.old }
         ensures delivered { (sender : ℕ) → done_at (delivery_of state self.new) sender packet.new result
             ≡ deliver_atomic (delivery_of state self.old) sender packet.old
-            (destination (sys_of state self.old).router.routes packet.old.addr) }
+            (destination (sys_of state self.old).routes packet.old.addr) }
         ensures table { self.new.queue.table ≡ self.old.queue.table }
     {
         let way = self.router.latency();

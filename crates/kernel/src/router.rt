@@ -3,7 +3,7 @@ ghost use Rattle.std.specs.Prelude.{◌≡◌, ◌+◌, ◌≤◌, ◌++◌, len
 ghost use Rattle.kernel.specs.Router.{routes_shown};
 ghost use Rattle.std.specs.Option.{option_map};
 ghost use Rattle.cfg_tree.specs.Valid.{IsValidConfig};
-ghost use Rattle.gm_words.specs.Router.{destination, route_to, routes_of};
+ghost use Rattle.gm_words.specs.Routes.{destination, route_to, routes_of};
 ghost use Rattle.gm_words.specs.Shown.{part_shown};
 
 use gc_base::{NoMemory, ObjId};
@@ -28,7 +28,7 @@ pub struct Router {
 }
 
 impl Model for Router {
-    ghost use Rattle.gm_words.specs.Router.{Router as ModelRouter};
+    ghost use Rattle.gm_words.specs.Routes.{Router as ModelRouter};
     ghost use Rattle.kernel.specs.Router.{routes_shown};
 
     ghost Value = { ModelRouter };

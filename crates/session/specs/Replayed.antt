@@ -17,7 +17,7 @@ use Rattle.stop_script.specs.declared.stop.Stop.{Stop}
 
 -- the replay of all that was noted on the way leads from the program's state at the start to the one at the end
 abbrev pub IsReplayedFrom : Sys → Written → Type 0
-IsReplayedFrom start w = replay start.router.routes (program_state start []) w.history ≡ Some (program_state w.sys [])
+IsReplayedFrom start w = replay start.routes (program_state start []) w.history ≡ Some (program_state w.sys [])
 
 -- so it is for each machine of a valid configuration in atomic mode, with an image that lies in RAM, and each script
 abbrev pub ScriptsAreReplayed : Type 0

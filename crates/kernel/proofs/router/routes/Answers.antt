@@ -1,5 +1,5 @@
 use Rattle.kernel.proofs.Rows.{route_more}
-use Rattle.kernel.proofs.router.routes.Goals as goal
+use Rattle.kernel.proofs.routes.Goals as goal
 
 pub loop-i-preserved : goal.loop-i-preserved
 loop-i-preserved c =

@@ -1,8 +1,8 @@
 use Rattle.std.proofs.Common.{◌≡◌, ◌++◌, map, drop}
-use Rattle.gm_words.specs.Router.{routes_of}
+use Rattle.gm_words.specs.Routes.{routes_of}
 use Rattle.gm_words.specs.Shown.{part_shown}
 use Rattle.kernel.specs.Router.{routes_shown}
-use Rattle.kernel.proofs.router.routes.Given as goal
+use Rattle.kernel.proofs.routes.Given as goal
 
 -- with the rows that are left, all routes are there
 abbrev pub invariant-loop-i : goal.invariant-loop-i

@@ -1,5 +1,5 @@
 use Rattle.std.proofs.Common.{◌≡◌, drop}
-use Rattle.gm_words.specs.Router.{destination}
+use Rattle.gm_words.specs.Routes.{destination}
 use Rattle.kernel.specs.Router.{routes_shown}
 use Rattle.kernel.proofs.router.Router.destination.Given as goal
 

@@ -1,18 +1,11 @@
--- Where packets go in atomic mode: by their address to the server of the range, with the latencies of both crossbars.
--- This project's own rule. Crossbars that are objects of their own will take its place.
+-- Which addresses are of a range, and of whose. This project's own rule.
 use Rattle.std.specs.Prelude.{ℕ, ◌+◌, Bool, if◌then◌else◌, List, [], ◌∷◌, ◌++◌, Option, Some, None, is_none}
-use Rattle.gm_words.specs.Platform.{Range, is_within, Part, platform}
-use Rattle.cfg_tree.specs.declared.config.Config.{Config}
+use Rattle.gm_words.specs.Platform.{Range, is_within, Part}
 
 -- the addresses of a range go to an object
 pub record Route : Type 0 where
   pub range : Range
   pub object : ℕ
-
--- the latency of the way to a server, and the routes
-pub record Router : Type 0 where
-  pub latency : ℕ
-  pub routes : List Route
 
 -- the object to which an address goes, if it is of a range
 abbrev pub destination : List Route → ℕ → Option ℕ
@@ -32,7 +25,3 @@ route_to object (Some r) = record { range = r; object = object } ∷ []
 abbrev pub routes_of : ℕ → List Part → List Route
 routes_of object [] = []
 routes_of object (p ∷ ps) = route_to object p.range ++ routes_of (object + 1) ps
-
--- the router of a configuration
-abbrev pub router_of : Config → Router
-router_of c = record { latency = c.corebus_latency + c.membus_latency; routes = routes_of 0 (platform c) }
