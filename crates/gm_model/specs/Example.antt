@@ -1,6 +1,6 @@
--- Two small runs, computed: a program of five words stores a byte to the UART and exits; and one of eleven words sleeps until the timer
--- wakes it. This project's own examples.
-use Rattle.std.specs.Prelude.{◌≡◌, ℕ, zero, suc, false, List, [], ◌∷◌, ◌++◌, Option, Some, None}
+-- Small runs, computed: a program of five words stores a byte to the UART and exits, in both modes; one of eleven words sleeps until the
+-- timer wakes it; and one of one word loads from an address of no range in the timing mode. This project's own examples.
+use Rattle.std.specs.Prelude.{◌≡◌, ℕ, zero, suc, true, false, List, [], ◌∷◌, ◌++◌, Option, Some, None}
 use Rattle.ev_queue.specs.declared.due.Due.{Due}
 use Rattle.ev_queue.specs.PendingList.{first}
 use Rattle.rv_step.specs.Bytes.{bytes_of}
@@ -48,9 +48,16 @@ sleep_and_exit =
     bytes_of 4 0x02004537 ++ bytes_of 4 0x0c800293 ++ bytes_of 4 0x00000397 ++ bytes_of 4 0x0253b423 ++ bytes_of 4 0x0283b283 ++ bytes_of 4 0x00553023
     ++ bytes_of 4 0x08000313 ++ bytes_of 4 0x30432073 ++ bytes_of 4 0x10500073 ++ bytes_of 4 0x001005b7 ++ bytes_of 4 0x0005a023
 
--- the machine with a program, resumed
+-- lb x5, 0(x0)
+abbrev pub load_of_nobody : List ℕ
+load_of_nobody = bytes_of 4 0x00000283
+
+-- the machine with a program, resumed; and the same in the timing mode
 abbrev pub machine_with : List ℕ → Sys
 machine_with program = resumed_state (start_state small_config ram_base (ram_with_front 64 program))
+
+abbrev pub timed_machine_with : List ℕ → Sys
+timed_machine_with program = resumed_state (start_state (record small_config { system_model = true }) ram_base (ram_with_front 64 program))
 
 abbrev pub small_machine : Sys
 small_machine = machine_with store_and_exit
@@ -84,7 +91,7 @@ events_served (suc n) s = due_place (first s.pending) ∷ events_served n (fire_
 
 -- the program runs to its end, which a goal at an earlier tick and a budget of three events cut short
 pub record RunsStoreAndExit : Type 0 where
-  pub events : events_served 6 small_machine ≡ (1000, 0) ∷ (2700, 0) ∷ (4400, 0) ∷ (5400, 4) ∷ (6500, 0) ∷ (8200, 0) ∷ []
+  pub events : events_served 6 small_machine ≡ (1000, 0) ∷ (2700, 0) ∷ (4400, 0) ∷ (5400, 7) ∷ (6500, 0) ∷ (8200, 0) ∷ []
   pub to_the_end : report_of (run_to small_machine (record { until = untils.End; budget = 1000000 }))
       ≡ record { reason = reasons.Exit 0; tick = 8200; insts = 5; events = 6; console = 1 ∷ [] }
   pub to_a_tick : report_of (run_to small_machine (record { until = untils.Tick 999; budget = 1000000 }))
@@ -96,6 +103,13 @@ pub record RunsStoreAndExit : Type 0 where
 -- comes to 200; and the hart goes on at the next multiple of its own period
 pub record RunsAsTheTimerWakes : Type 0 where
   pub events : events_served 12 (machine_with sleep_and_exit)
-      ≡ (1000, 0) ∷ (2700, 0) ∷ (4400, 0) ∷ (6100, 0) ∷ (8500, 0) ∷ (10900, 0) ∷ (13000, 0) ∷ (14700, 0) ∷ (16400, 0) ∷ (20000, 3) ∷ (21000, 0) ∷ (22700, 0) ∷ []
+      ≡ (1000, 0) ∷ (2700, 0) ∷ (4400, 0) ∷ (6100, 0) ∷ (8500, 0) ∷ (10900, 0) ∷ (13000, 0) ∷ (14700, 0) ∷ (16400, 0) ∷ (20000, 6) ∷ (21000, 0) ∷ (22700, 0) ∷ []
   pub to_the_end : report_of (run_to (machine_with sleep_and_exit) (record { until = untils.End; budget = 1000000 }))
       ≡ record { reason = reasons.Exit 0; tick = 22700; insts = 11; events = 12; console = [] }
+
+-- in the timing mode the first program exits before its last word has retired, and the load of no range traps
+pub record RunsInTime : Type 0 where
+  pub to_the_end : report_of (run_to (timed_machine_with store_and_exit) (record { until = untils.End; budget = 1000000 }))
+      ≡ record { reason = reasons.Exit 0; tick = 7250; insts = 4; events = 41; console = 1 ∷ [] }
+  pub refused : report_of (run_to (timed_machine_with load_of_nobody) (record { until = untils.Tick 2999; budget = 1000000 }))
+      ≡ record { reason = reasons.Tick; tick = 2400; insts = 0; events = 11; console = [] }

@@ -1,5 +1,5 @@
 // What the definitions of runs say, each as the contract of a function that does nothing.
-ghost use Rattle.gm_model.specs.Example.{RunsStoreAndExit, RunsAsTheTimerWakes};
+ghost use Rattle.gm_model.specs.Example.{RunsStoreAndExit, RunsAsTheTimerWakes, RunsInTime};
 ghost use Rattle.gm_model.specs.Run.{RunsEnd};
 
 /// A run to a goal ends after the least number of events for which there is a reason, and with the first that holds.
@@ -15,4 +15,9 @@ pub fn runs_store_and_exit()
 /// What the example runs to that the timer wakes: computed, and not a law.
 pub fn runs_as_the_timer_wakes()
     ensures { RunsAsTheTimerWakes }
+{}
+
+/// What the examples run to in the timing mode: computed, and not a law.
+pub fn runs_in_time()
+    ensures { RunsInTime }
 {}

@@ -23,8 +23,14 @@ cpu_class = 50
 abbrev pub cpu_slot : ℕ
 cpu_slot = 0
 
--- the slot of a device's own event: a UART can take a byte again, or a timer's clock comes to the number that it is compared with;
--- at slot 0 a server serves
+-- a server's slot, in which it serves, and its port
+abbrev pub serve_slot : ℕ
+serve_slot = 0
+
+abbrev pub serve_port : ℕ
+serve_port = 0
+
+-- the slot of a device's own event: a UART can take a byte again, or a timer's clock comes to the number that it is compared with
 abbrev pub own_slot : ℕ
 own_slot = 1
 
