@@ -4,6 +4,9 @@ pub mod Weights
 pub mod Calm
 pub mod Lines
 pub mod Ticks
+pub mod Flows
+pub mod Lanes
+pub mod Sides
 pub mod Answering
 pub mod Timers
 pub mod Serving

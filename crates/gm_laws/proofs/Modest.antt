@@ -1,5 +1,5 @@
 -- Each rule is modest, by the cases of the rules.
-use Rattle.std.proofs.Common.{◌≡◌, ℕ, ◌+◌, ◌-◌, ◌^◌, ◌≤◌, ◌==◌, refl, ap, subst, arith, drop, Bool, true, false, cond, List, [], ◌∷◌, take, Option, Some, None}
+use Rattle.std.proofs.Common.{◌≡◌, ℕ, ◌+◌, ◌-◌, ◌^◌, ◌≤◌, ◌==◌, refl, ap, subst, arith, drop, Bool, true, false, cond, List, [], ◌∷◌, take, length, Option, Some, None}
 use Rattle.rv_step.specs.declared.arch.Arch.{Arch}
 use Rattle.rv_step.specs.declared.demand.Demand.{Demand}
 use Rattle.rv_step.specs.declared.demand.Demand.TheVariants as demand
@@ -55,7 +55,6 @@ stays_modest o next w now h = record {
   drawn = refl;
   few = omega arith;
   spoken = omega arith;
-  silent = refl;
 }
 
 -- what is consumed beside it changes nothing of it
@@ -72,7 +71,6 @@ answered_modest o next w now p r m = record {
   drawn = m.drawn;
   few = m.few;
   spoken = m.spoken;
-  silent = m.silent;
 }
 
 drops_modest : (o : ObjState) (next : ℕ) (w : Wake) (now : ℕ) (p : Packet) → IsWithin o → IsModest o next w now (drops o next p)
@@ -97,8 +95,7 @@ module _ (s : AtomicCpuState) (next : ℕ) (w : Wake) (now : ℕ) (small : 1 ≤
     entries = omega arith;
     drawn = refl;
     few = omega arith;
-    spoken = omega arith;
-    silent = q;
+    spoken = omega (arith, ap length q);
   }
   ends_modest d true a at e q l m = record {
     object = refl;
@@ -111,8 +108,7 @@ module _ (s : AtomicCpuState) (next : ℕ) (w : Wake) (now : ℕ) (small : 1 ≤
     entries = omega arith;
     drawn = refl;
     few = omega arith;
-    spoken = omega arith;
-    silent = q;
+    spoken = omega (arith, ap length q);
   }
 
   asks_modest : (d : Bool) (stage : CpuStage) (port : ℕ) (p : Packet) → IsStageWithin stage → p.size ≤ 64 → p.id.0 ≡ next → packet_speech p + stage_speech stage ≤ stage_speech s.stage + wake_speech w
@@ -130,7 +126,6 @@ module _ (s : AtomicCpuState) (next : ℕ) (w : Wake) (now : ℕ) (small : 1 ≤
     drawn = (n, refl);
     few = omega arith;
     spoken = omega (arith, l);
-    silent = refl;
   }
 
   stays_here : (d : Bool) → IsStageWithin s.stage → IsModest (AtomicCpu s) next w now (stays (AtomicCpu (record s { due = d })) next)
@@ -147,7 +142,6 @@ module _ (s : AtomicCpuState) (next : ℕ) (w : Wake) (now : ℕ) (small : 1 ≤
     drawn = refl;
     few = omega arith;
     spoken = omega arith;
-    silent = refl;
   }
 
   begins_modest : (d : Bool) (a : Arch) (o : Option ℕ) (b : Bool) → 1 ≤ wake_speech w → IsModest (AtomicCpu s) next w now (cpu_begins (record s { due = d }) a next now o b)
@@ -204,7 +198,6 @@ module _ (s : AtomicCpuState) (next : ℕ) (w : Wake) (now : ℕ) (small : 1 ≤
         drawn = refl;
         few = omega arith;
         spoken = omega arith;
-        silent = refl;
       }
   line_modest a bit level false h = record {
     object = refl;
@@ -218,7 +211,6 @@ module _ (s : AtomicCpuState) (next : ℕ) (w : Wake) (now : ℕ) (small : 1 ≤
     drawn = refl;
     few = omega arith;
     spoken = omega arith;
-    silent = refl;
   }
 
   lined_modest : (bit : ℕ) (level : Bool) (o : Option Arch) → IsStageWithin s.stage → IsModest (AtomicCpu s) next w now (cpu_lined s next now bit level o)
@@ -266,7 +258,6 @@ server_modest s next (wakes.Event slot) now h = by (slot.0 == 1) s.device h.1 wh
     drawn = refl;
     few = omega arith;
     spoken = omega (arith, no_speech (event_acts d) (event_levels d));
-    silent = refl;
   }
 
   by : (b : Bool) (d : Device) → IsDeviceWithin d → IsModest (Server (record s { device = d })) next (wakes.Event slot) now (cond b (server_event s next d) (stays (Server (record s { device = d })) next))
