@@ -24,7 +24,7 @@ use Rattle.gm_words.specs.declared.wake.Wake.TheVariants as wakes
 use Rattle.gm_model.specs.AtomicCpu.{cpu_ends, cpu_asks, cpu_begins, cpu_event, cpu_fetched, cpu_accessed, cpu_done, cpu_line, cpu_lined, goes_on}
 use Rattle.gm_model.specs.ExitDevice.{serve_exit}
 use Rattle.gm_model.specs.Memory.{serve_memory}
-use Rattle.gm_model.specs.ObjState.{ObjState, Blank, AtomicCpu, Server, AtomicCpuState, ServerState, CpuStage, Rest, AwaitFetch, AwaitData, Device, Memory, Uart, Exit, Timer, UartState, device_kind}
+use Rattle.gm_model.specs.ObjState.{ObjState, Blank, AtomicCpu, TimingCpu, Server, AtomicCpuState, ServerState, CpuStage, Rest, AwaitFetch, AwaitData, Device, Memory, Uart, Exit, Timer, UartState, device_kind}
 use Rattle.gm_model.specs.ObjectStep.{object_step, atomic_step}
 use Rattle.gm_model.specs.Serve.{served}
 use Rattle.gm_model.specs.Server.{serve, device_after_event, event_acts, server_event}
@@ -39,6 +39,7 @@ use Rattle.gm_laws.proofs.Lines.{levels_fit, no_speech}
 use Rattle.gm_laws.proofs.Serving.{event_levels}
 use Rattle.gm_laws.proofs.Ticks.{soon, next_bounds}
 use Rattle.gm_laws.proofs.Timers.{timer_modest}
+use Rattle.gm_laws.proofs.TimingModest.{timing_modest, timing_modest_pass}
 
 -- nothing happens
 stays_modest : (o : ObjState) (next : ℕ) (w : Wake) (now : ℕ) → IsWithin o → IsModest o next w now (stays o next)
@@ -282,6 +283,7 @@ blank_modest k next (wakes.Retry port) now = stays_modest (Blank k) next (wakes.
 wake_modest : (o : ObjState) (next : ℕ) (w : Wake) (now : ℕ) → IsWithin o → MayCome w → IsModest o next w now (object_step o next w now)
 wake_modest (Blank k) next w now h m = blank_modest k next w now
 wake_modest (AtomicCpu s) next w now h m = cpu_modest s next w now h m
+wake_modest (TimingCpu s) next w now h m = timing_modest s next w now h
 wake_modest (Server s) next w now h m = server_modest s next w now h
 
 memory_modest : (m : List ℕ) (p : Packet) (now : ℕ) (c : Cmd) (b : Bool) → ServesModestly (Memory m) p now (serve_memory m p c b)
@@ -347,6 +349,7 @@ pass_modest : (o : ObjState) (x : Packet) (now : ℕ) → IsWithin o → IsModes
 unfolding atomic_step IsWithin part_speech face_of
 pass_modest (Blank k) x now h = record { object = refl; slots = refl; ports = refl; within = h; own = tt; timely = tt; fit = tt; size = refl; soon = omega arith; entries = omega arith; spoken = omega arith }
 pass_modest (AtomicCpu s) x now h = record { object = refl; slots = refl; ports = refl; within = h; own = tt; timely = tt; fit = tt; size = refl; soon = omega arith; entries = omega arith; spoken = omega arith }
+pass_modest (TimingCpu s) x now h = timing_modest_pass s x now h
 pass_modest (Server s) x now h =
     let m = serve_modest s.device x now in
     record {
