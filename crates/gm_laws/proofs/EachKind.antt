@@ -11,7 +11,7 @@ use Rattle.gm_words.specs.declared.packet.Packet.{Packet}
 use Rattle.gm_words.specs.declared.wake.Wake.{Wake}
 use Rattle.gm_words.specs.declared.wake.Wake.TheVariants as wakes
 use Rattle.gm_model.specs.Command.{arch_of}
-use Rattle.gm_model.specs.ObjState.{ObjState, Blank, AtomicCpu, TimingCpu, Server, CpuStage, Rest, AwaitFetch, AwaitData}
+use Rattle.gm_model.specs.ObjState.{ObjState, Blank, AtomicCpu, TimingCpu, Xbar, Server, CpuStage, Rest, AwaitFetch, AwaitData}
 use Rattle.gm_model.specs.ObjectStep.{object_step, atomic_step, blank_step}
 use Rattle.gm_model.specs.Stepped.{Stepped, stays}
 use Rattle.gm_model.specs.View.{Mind, Doing, mind_with, atomic_doing, timing_doing, packets_in, mind_of, memory_of}
@@ -25,6 +25,7 @@ use Rattle.gm_laws.proofs.Calm.{IsCalmWake, calm_line, calm_done, no_both}
 use Rattle.gm_laws.proofs.AtomicCpus.{atomic_law}
 use Rattle.gm_laws.proofs.TimingCpus.{timing_law}
 use Rattle.gm_laws.proofs.Servers.{server_law, server_passes}
+use Rattle.gm_laws.proofs.Xbars.{xbar_law, xbar_passes}
 
 pub blank_ok : FaceOk bare_face
 blank_ok = record {
@@ -93,6 +94,7 @@ unfolding face_of IsOk object_step
 wakes_hold rs ram (Blank k) next w now ok may = blank_law rs ram k next w may
 wakes_hold rs ram (AtomicCpu s) next w now ok may = atomic_law rs ram s ok next now w may
 wakes_hold rs ram (TimingCpu s) next w now ok may = timing_law rs ram s ok next now w may
+wakes_hold rs ram (Xbar s) next w now ok may = xbar_law rs ram s ok next now w may
 wakes_hold rs ram (Server s) next w now ok may = server_law rs ram s ok next now w may
 
 pub passes_hold : PassesHold
@@ -100,6 +102,7 @@ unfolding face_of IsOk atomic_step
 passes_hold rs ram (Blank k) x now q ok there fits request plain = absurd (cc fits)
 passes_hold rs ram (AtomicCpu s) x now q ok there fits request plain = absurd (cc fits)
 passes_hold rs ram (TimingCpu s) x now q ok there fits request plain = absurd (no_both (is_response x.cmd) fits request)
+passes_hold rs ram (Xbar s) x now q ok there fits request plain = xbar_passes rs ram s x ok request plain
 passes_hold rs ram (Server s) x now q ok there fits request plain = server_passes rs ram s ok x now fits plain
 
 -- a face shows what the definitions of the view say
@@ -108,6 +111,7 @@ unfolding face_of packets_in
 face_packets (Blank k) = refl
 face_packets (AtomicCpu s) = refl
 face_packets (TimingCpu s) = refl
+face_packets (Xbar s) = refl
 face_packets (Server s) = refl
 
 pub face_mind : (o : ObjState) → (face_of o).mind ≡ mind_of o
@@ -115,6 +119,7 @@ unfolding face_of mind_of
 face_mind (Blank k) = refl
 face_mind (AtomicCpu s) = refl
 face_mind (TimingCpu s) = refl
+face_mind (Xbar s) = refl
 face_mind (Server s) = refl
 
 pub face_memory : (o : ObjState) → (face_of o).memory ≡ memory_of o
@@ -122,6 +127,7 @@ unfolding face_of memory_of
 face_memory (Blank k) = refl
 face_memory (AtomicCpu s) = refl
 face_memory (TimingCpu s) = refl
+face_memory (Xbar s) = refl
 face_memory (Server s) = refl
 
 some_mind : (d : Doing) (a : Option Arch) (m : Mind) → mind_with d a ≡ Some m → is_some a ≡ true
@@ -138,6 +144,7 @@ unfolding face_of
 active_mind (Blank k) m e = cc
 active_mind (AtomicCpu s) m e = some_mind (atomic_doing s.stage) s.arch m e
 active_mind (TimingCpu s) m e = some_mind (timing_doing s.stage) s.arch m e
+active_mind (Xbar s) m e = cc
 active_mind (Server s) m e = cc
 
 -- a served packet causes little more in an event
@@ -150,6 +157,7 @@ toil_le (AtomicCpu s) = by s.stage where
   by AwaitFetch = omega arith
   by (AwaitData w l) = omega arith
 toil_le (TimingCpu s) = omega arith
+toil_le (Xbar s) = omega arith
 toil_le (Server s) = omega arith
 
 -- what isn't there shows nothing
@@ -163,4 +171,5 @@ unfolding mind_of
 hart_shown (Blank k) = refl
 hart_shown (AtomicCpu s) = mind_arch (atomic_doing s.stage) s.arch
 hart_shown (TimingCpu s) = mind_arch (timing_doing s.stage) s.arch
+hart_shown (Xbar s) = refl
 hart_shown (Server s) = refl

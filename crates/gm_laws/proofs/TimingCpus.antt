@@ -37,7 +37,6 @@ use Rattle.gm_laws.specs.Program.{bit, core, owed, bad, suits, content_of, Conte
 use Rattle.gm_laws.specs.Faces.{face_of, IsOk, Keeps, timing_face, TimingOk, StageOk, hand_asked, hand_waits, hand_head, hand_of, port_of, AllActsOk}
 use Rattle.gm_laws.proofs.Bytes.{same_is}
 use Rattle.gm_laws.proofs.Calm.{IsCalmWake, calm_event, calm_line, calm_done, event_due, set_due, no_both}
-
 use Rattle.gm_laws.proofs.Counts.{only_self, only_other, only_zero, only_le, only_is}
 use Rattle.gm_laws.proofs.Flows.{no_pass}
 
