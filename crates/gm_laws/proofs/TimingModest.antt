@@ -1,5 +1,5 @@
 -- The timing CPU's rule is modest, by its cases.
-use Rattle.std.proofs.Common.{◌≡◌, ℕ, ◌≤◌, ◌==◌, cond, ◌&&◌, not, Bool, true, false, List, [], ◌∷◌, take, length, All, Option, Some, None, refl, arith}
+use Rattle.std.proofs.Common.{◌≡◌, ℕ, ◌≤◌, ◌==◌, cond, ◌&&◌, not, Bool, true, false, List, [], ◌∷◌, take, length, All, Option, Some, None, refl, ap, arith}
 use Rattle.std.proofs.lemmas.List.Elements.{All-nil, All-cons, All-head}
 use Rattle.rv_step.specs.declared.arch.Arch.{Arch}
 use Rattle.rv_step.specs.declared.demand.Demand.{Demand}
@@ -56,8 +56,7 @@ module _ (s : TimingCpuState) (next : ℕ) (w : Wake) (now : ℕ) (small : 1 ≤
         entries = few;
         drawn = refl;
         few = omega arith;
-        spoken = omega arith;
-        silent = quiet;
+        spoken = omega (arith, ap length quiet);
       }
   in_modest d a stage es false h few quiet = record {
     object = refl;
@@ -70,8 +69,7 @@ module _ (s : TimingCpuState) (next : ℕ) (w : Wake) (now : ℕ) (small : 1 ≤
     entries = few;
     drawn = refl;
     few = omega arith;
-    spoken = omega arith;
-    silent = quiet;
+    spoken = omega (arith, ap length quiet);
   }
 
   ends_modest : (d : Bool) (a : Arch) (e : Entry) (b : Bool) → IsQuiet e → IsModest (TimingCpu s) next w now (tcpu_ends (record s { due = d }) a next now e b)
@@ -93,7 +91,6 @@ module _ (s : TimingCpuState) (next : ℕ) (w : Wake) (now : ℕ) (small : 1 ≤
     drawn = (n, refl);
     few = omega arith;
     spoken = omega arith;
-    silent = refl;
   }
 
   -- it stands in another stage, and offers what it may
@@ -112,7 +109,6 @@ module _ (s : TimingCpuState) (next : ℕ) (w : Wake) (now : ℕ) (small : 1 ≤
     drawn = refl;
     few = omega arith;
     spoken = omega (arith, z);
-    silent = refl;
   }
 
   stays_here : (d : Bool) → All MayPass (stage_packets s.stage) → IsModest (TimingCpu s) next w now (stays (TimingCpu (record s { due = d })) next)
@@ -220,7 +216,6 @@ module _ (s : TimingCpuState) (next : ℕ) (w : Wake) (now : ℕ) (small : 1 ≤
     drawn = m.drawn;
     few = m.few;
     spoken = m.spoken;
-    silent = m.silent;
   }
 
 pub timing_modest : (s : TimingCpuState) (next : ℕ) (w : Wake) (now : ℕ) → IsWithin (TimingCpu s) → IsModest (TimingCpu s) next w now (object_step (TimingCpu s) next w now)
