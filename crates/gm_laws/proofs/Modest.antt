@@ -174,7 +174,7 @@ cpu_modest s next (wakes.Event slot) now h m = by (slot.0 == 0) where
   by : (b : Bool) → IsModest (AtomicCpu s) next (wakes.Event slot) now (cond b (cpu_event (record s { due = false }) next now s.arch s.stage) (stays (AtomicCpu s) next))
   by true = event_modest s next (wakes.Event slot) now h.0 h.1 false s.arch s.stage h.2 (omega arith)
   by false = stays_modest (AtomicCpu s) next (wakes.Event slot) now h
-cpu_modest s next (wakes.AtomicDone p latency) now h m = answered_modest (AtomicCpu s) next (wakes.AtomicDone p latency) now p _ (done_modest s next (wakes.AtomicDone p latency) now h.0 h.1 p latency s.arch s.stage refl h.2 m.1)
+cpu_modest s next (wakes.AtomicDone p latency) now h m = answered_modest (AtomicCpu s) next (wakes.AtomicDone p latency) now p _ _ (done_modest s next (wakes.AtomicDone p latency) now h.0 h.1 p latency s.arch s.stage refl h.2 m.1)
 cpu_modest s next (wakes.Line bit level) now h m = lined_modest s next (wakes.Line bit level) now h.0 h.1 bit level s.arch h.2
 cpu_modest s next (wakes.Offer port p) now h m = drops_modest (AtomicCpu s) next (wakes.Offer port p) now p h
 cpu_modest s next (wakes.Taken port) now h m = stays_modest (AtomicCpu s) next (wakes.Taken port) now h
