@@ -14,8 +14,9 @@ use Rattle.gm_words.specs.declared.packet.Packet.{Packet}
 use Rattle.gm_words.specs.declared.wake.Wake.{Wake}
 use Rattle.gm_words.specs.declared.wake.Wake.TheVariants as wakes
 use Rattle.gm_laws.specs.Words.{offers, calls, IsIn, told, taken, refused, retry, shown, rejected, offer_out, weigh}
-use Rattle.gm_laws.specs.Face.{Face, FaceOk, Law, Joins, CallsOne}
-use Rattle.gm_laws.specs.Faces.{IsFlow, IsLane, stood, is_hungry, lanes_face}
+use Rattle.gm_laws.specs.Face.{Face, FaceOk, Law, Joins, CallsOne, passed_packets}
+use Rattle.gm_laws.specs.Fuel.{weight}
+use Rattle.gm_laws.specs.Faces.{IsFlow, IsLane, AllActsOk, stood, is_hungry, lanes_face}
 use Rattle.gm_laws.proofs.Bytes.{same_is}
 use Rattle.gm_laws.proofs.Counts.{only_same, only_self, only_other, rejected_pkt, rejected_le}
 use Rattle.gm_laws.proofs.Flows.{FlowLaw, IsCalm, put_law, still_law, mute_offer}
@@ -151,6 +152,22 @@ opened_law places o a w m waiting law none quiet = by (nat_lt (length m.flow.ite
     feeds = λ q x t. absurd (omega (arith, ap (λ v. shown v q) t, only_self q 1, quiet q));
     hungry = λ h. inr (r, omega (arith, only_self r 1), omega (arith, only_self r 1));
   }
+
+-- what such a step leaves and asks for
+pub opened_items : (m : Moved) (room : Bool) (xs : List ℕ) → (open_in room m xs).lane.flow.items ≡ m.flow.items
+opened_items m false xs = refl
+opened_items m true [] = refl
+opened_items m true (x ∷ xs) = refl
+
+pub opened_flow : (m : Moved) (room : Bool) (xs : List ℕ) → (open_in room m xs).lane.flow ≡ m.flow
+opened_flow m false xs = refl
+opened_flow m true [] = refl
+opened_flow m true (x ∷ xs) = refl
+
+pub opened_passed : (m : Moved) (room : Bool) (xs : List ℕ) → m.acts ≡ [] → (passed_packets (open_in room m xs).acts ≡ []) × AllActsOk (open_in room m xs).acts × (weight (open_in room m xs).acts ≤ 2) × ((p : ℕ) → offers p (open_in room m xs).acts ≡ 0)
+opened_passed m false xs e = (ap passed_packets e, subst AllActsOk (sym e) tt, omega (arith, ap weight e), λ p. ap (offers p) e)
+opened_passed m true [] e = (ap passed_packets e, subst AllActsOk (sym e) tt, omega (arith, ap weight e), λ p. ap (offers p) e)
+opened_passed m true (x ∷ xs) e = (ap passed_packets e, (tt, subst AllActsOk (sym e) tt), omega (arith, ap weight e), λ p. omega (arith, ap (offers p) e))
 
 -- a port that isn't in a list joins it at the end
 pub not_listed : (q : ℕ) (ps : List ℕ) → stood q ps ≡ 0 → is_listed q ps ≡ false

@@ -12,6 +12,11 @@ pub mod Timers
 pub mod Serving
 pub mod Servers
 pub mod AtomicCpus
+pub mod TimingCpus
+pub mod StillModest
+pub mod FlowModest
+pub mod ServerModest
+pub mod TimingModest
 pub mod EachKind
 pub mod Modest
 pub mod Commands
