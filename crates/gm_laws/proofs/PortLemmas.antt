@@ -170,6 +170,11 @@ total_takes k (u ∷ us) a t e = by (takes u a) (takes_all u) refl refl (total_t
   by false true f g more = not_both (takes u a) f (takes_each u a g)
   by false false f g more = more (subst (λ b. (b || is_total us) ≡ true) g t) (subst (λ b. cond b (Some k) (port_from (suc k) us a) ≡ None) f e)
 
+pub total_some : (us : List PortUse) → is_total us ≡ true → 0 < length us
+unfolding is_total
+total_some [] t = cc
+total_some (u ∷ us) t = omega arith
+
 -- sources
 
 -- a port with a use is one of the ports

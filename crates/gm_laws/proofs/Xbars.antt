@@ -100,7 +100,7 @@ request_passes (uses.Destination first last) x r e = refl
 request_passes uses.Unused x r e = cc
 
 -- the count of those before it is all that changes of the layer of no port
-less_lane : (ports : List PortUse) (p : ℕ) (l : SideLayer) → (one_less_ahead ports p l).lane ≡ l.lane
+pub less_lane : (ports : List PortUse) (p : ℕ) (l : SideLayer) → (one_less_ahead ports p l).lane ≡ l.lane
 less_lane ports p l = by l.lane.flow.items l.lane.flow.out where
   by : (items : List Queued) (out : OutState) → (let k : SideLayer = record { lane = record { flow = record { items = items; out = out }; waiting = l.lane.waiting }; ahead = l.ahead } in (one_less_ahead ports p k).lane ≡ k.lane)
   by (x ∷ xs) Waits = waits (source_port ports (top_port x.packet) == p) where
