@@ -16,7 +16,7 @@ use Rattle.gm_words.specs.declared.packet.Packet.{Packet}
 use Rattle.gm_words.specs.declared.wake.Wake.{Wake}
 use Rattle.gm_words.specs.declared.wake.Wake.TheVariants as wakes
 use Rattle.gm_model.specs.AtomicCpu.{cpu_ends, cpu_asks, cpu_begins, cpu_event, cpu_fetched, cpu_accessed, cpu_done, cpu_line, cpu_lined, goes_on}
-use Rattle.gm_model.specs.ObjState.{ObjState, Blank, AtomicCpu, TimingCpu, Server, AtomicCpuState, CpuStage, Rest, AwaitFetch, AwaitData}
+use Rattle.gm_model.specs.ObjState.{ObjState, Blank, AtomicCpu, TimingCpu, Xbar, Server, AtomicCpuState, CpuStage, Rest, AwaitFetch, AwaitData}
 use Rattle.gm_model.specs.ObjectStep.{object_step, atomic_step}
 use Rattle.gm_model.specs.Stepped.{stays}
 use Rattle.gm_laws.specs.Bounds.{IsWithin, IsStageWithin, IsModest, IsModestPass, packet_speech, part_speech, stage_speech, wake_speech, RulesAreModest}
@@ -26,6 +26,7 @@ use Rattle.gm_laws.proofs.ServerModest.{server_modest, server_modest_pass}
 use Rattle.gm_laws.proofs.StillModest.{stays_modest, answered_modest, drops_modest}
 use Rattle.gm_laws.proofs.Ticks.{soon, next_bounds}
 use Rattle.gm_laws.proofs.TimingModest.{timing_modest, timing_modest_pass}
+use Rattle.gm_laws.proofs.XbarModest.{xbar_modest, xbar_modest_pass}
 
 -- an entry that isn't of an access brings nothing to the console
 abbrev IsQuiet : Entry → Type 0
@@ -195,6 +196,7 @@ wake_modest : (o : ObjState) (next : ℕ) (w : Wake) (now : ℕ) → IsWithin o 
 wake_modest (Blank k) next w now h m = blank_modest k next w now
 wake_modest (AtomicCpu s) next w now h m = cpu_modest s next w now h m
 wake_modest (TimingCpu s) next w now h m = timing_modest s next w now h
+wake_modest (Xbar s) next w now h m = xbar_modest s next w now h m
 wake_modest (Server s) next w now h m = server_modest s next w now h m
 
 pass_modest : (o : ObjState) (x : Packet) (now : ℕ) → IsWithin o → IsModestPass o x now (atomic_step o x now)
@@ -202,6 +204,7 @@ unfolding atomic_step IsWithin part_speech face_of
 pass_modest (Blank k) x now h = record { object = refl; slots = refl; ports = refl; within = h; own = tt; timely = tt; fit = tt; size = refl; soon = omega arith; entries = omega arith; spoken = omega arith }
 pass_modest (AtomicCpu s) x now h = record { object = refl; slots = refl; ports = refl; within = h; own = tt; timely = tt; fit = tt; size = refl; soon = omega arith; entries = omega arith; spoken = omega arith }
 pass_modest (TimingCpu s) x now h = timing_modest_pass s x now h
+pass_modest (Xbar s) x now h = xbar_modest_pass s x now h
 pass_modest (Server s) x now h = server_modest_pass s x now h
 
 pub rules_are_modest : RulesAreModest
