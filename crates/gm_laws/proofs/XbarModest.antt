@@ -1,5 +1,5 @@
 -- A crossbar's rule is modest, by its cases.
-use Rattle.std.proofs.Common.{◌≡◌, ℕ, zero, suc, ◌+◌, ◌<◌, ◌≤◌, ◌==◌, if◌then◌else◌, ◌&&◌, Bool, true, false, List, [], ◌∷◌, ◌++◌, length, length-set, set, All, Option, Some, None, slice_get, nat_lt, refl, sym, ap, subst, arith, ◌∙◌, ◌⊎◌, inl, inr, ltb-true, lt-ltb}
+use Rattle.std.proofs.Common.{◌≡◌, ℕ, zero, suc, ◌+◌, ◌<◌, ◌≤◌, ◌==◌, if◌then◌else◌, Bool, true, false, List, [], ◌∷◌, ◌++◌, length, length-set, set, All, Option, Some, None, slice_get, nat_lt, refl, sym, ap, subst, arith, ◌∙◌, ◌⊎◌, inl, inr, lt-ltb}
 use Rattle.std.proofs.lemmas.Bool.{cases_lt, and_parts}
 use Rattle.std.proofs.lemmas.List.{get_or_past}
 use Rattle.std.proofs.lemmas.List.Elements.{All-nil, All-cons, All-head, All-tail, All-append}
@@ -16,15 +16,14 @@ use Rattle.gm_words.specs.declared.answer.Answer.{Answer}
 use Rattle.gm_words.specs.declared.answer.Answer.TheVariants as answers
 use Rattle.gm_words.specs.declared.entry.Entry.{Entry}
 use Rattle.gm_words.specs.declared.packet.Packet.{Packet}
-use Rattle.gm_words.specs.declared.port_use.PortUse.{PortUse}
 use Rattle.gm_words.specs.declared.wake.Wake.{Wake}
 use Rattle.gm_words.specs.declared.wake.Wake.TheVariants as wakes
-use Rattle.gm_model.specs.Flows.{Moved, LaneMoved, still, put_in, ask_in, hold_in, again_in, gone_in, next_in, moved, open_in, opened, taken_in, has_room, answer_of, refusal_of}
+use Rattle.gm_model.specs.Flows.{Moved, LaneMoved, still, put_in, ask_in, hold_in, again_in, gone_in, next_in, moved, opened, taken_in, has_room, answer_of, refusal_of}
 use Rattle.gm_model.specs.ObjState.{Xbar, XbarState, SideLayer}
 use Rattle.gm_model.specs.ObjectStep.{object_step, atomic_step}
 use Rattle.gm_model.specs.Stepped.{Stepped, stays}
 use Rattle.gm_model.specs.View.{queued_packets, lane_packets}
-use Rattle.gm_model.specs.Xbar.{lane_at, port_or_side, layer_for, layer_of, turned, turned_by, xbar_outlet, side_outlet, xbar_with, side_with, xbar_offer, side_opened, side_goes, side_waits, side_drops, side_event_at, side_event_by, side_event, is_next, side_enters, one_less_ahead, xbar_taken, xbar_event, xbar_atomic_at}
+use Rattle.gm_model.specs.Xbar.{lane_at, port_or_side, layer_for, layer_of, turned, turned_by, xbar_outlet, side_outlet, xbar_with, side_with, xbar_offer, side_opened, side_goes, side_waits, side_event_at, side_event_by, side_event, is_next, side_enters, one_less_ahead, xbar_taken, xbar_event, xbar_atomic_at}
 use Rattle.gm_laws.specs.Bounds.{IsWithin, IsModest, IsModestPass, AreOwnChanges, AreTimely, AreFit, latest, part_speech, speech}
 use Rattle.gm_laws.specs.Faces.{face_of}
 use Rattle.gm_laws.proofs.Answering.{fault_size}

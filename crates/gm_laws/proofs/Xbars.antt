@@ -1,5 +1,5 @@
 -- The laws of a crossbar.
-use Rattle.std.proofs.Common.{◌≡◌, ℕ, zero, suc, ◌+◌, ◌-◌, ◌<◌, ◌≤◌, ◌==◌, if◌then◌else◌, cond, ◌&&◌, ◌||◌, not, nat_lt, Bool, true, false, List, [], ◌∷◌, ◌++◌, replicate, refl, sym, ◌∙◌, ap, subst, arith, Option, Some, None, ◌⊎◌, inl, inr, length, length-set, set, ltb-true, ltb-false, lt-ltb, le-ltb, eq-eqb, ne_eqb}
+use Rattle.std.proofs.Common.{◌≡◌, ℕ, zero, suc, ◌+◌, ◌-◌, ◌<◌, ◌≤◌, ◌==◌, if◌then◌else◌, cond, ◌&&◌, not, nat_lt, Bool, true, false, List, [], ◌∷◌, ◌++◌, replicate, refl, sym, ◌∙◌, ap, subst, arith, Option, Some, None, ◌⊎◌, inl, inr, length, length-set, set, ltb-true, lt-ltb, le-ltb, ne_eqb}
 use Rattle.std.proofs.lemmas.Bool.{cases_eq, cases_lt, and_parts, and_from}
 use Rattle.std.proofs.lemmas.List.{get_or-set_same, get_or-set_other, get_or_past}
 use Rattle.gc_base.specs.declared.ids.SlotNo.{SlotNo}
@@ -21,7 +21,7 @@ use Rattle.gm_words.specs.declared.port_use.PortUse.{PortUse}
 use Rattle.gm_words.specs.declared.port_use.PortUse.TheVariants as uses
 use Rattle.gm_words.specs.declared.wake.Wake.{Wake}
 use Rattle.gm_words.specs.declared.wake.Wake.TheVariants as wakes
-use Rattle.gm_model.specs.Flows.{Outlet, Moved, LaneMoved, asked_bit, waits_bit, is_due_out, head_of, put_in, ask_in, hold_in, again_in, gone_in, next_in, moved, open_in, opened, taken_in, has_room, is_some_port, call_at, answer_of, refusal_of, joined_once}
+use Rattle.gm_model.specs.Flows.{Outlet, Moved, LaneMoved, asked_bit, waits_bit, is_due_out, head_of, put_in, ask_in, hold_in, again_in, gone_in, next_in, moved, opened, taken_in, has_room, is_some_port, call_at, answer_of, refusal_of, joined_once}
 use Rattle.gm_model.specs.ObjState.{Xbar, XbarState, SideLayer}
 use Rattle.gm_model.specs.Stepped.{Stepped, Passed}
 use Rattle.gm_model.specs.View.{Mind, queued_packets, lane_packets}
@@ -37,7 +37,7 @@ use Rattle.gm_laws.proofs.Bytes.{same_is, same_number}
 use Rattle.gm_laws.proofs.Weights.{no_write_back, weigh-append}
 use Rattle.gm_laws.proofs.Flows.{FlowLaw, IsCalm, ask_law, hold_law, again_law, gone_law, next_law, ask_calm, hold_calm, again_calm, gone_silent, put_silent, no_pass, put_weigh, gone_weigh, head_held}
 use Rattle.gm_laws.proofs.Lanes.{LaneLaw, IsAt, IsPortSame, AreSent, lanes_law, lanes_keep, lanes_ok, each, stays_law, moved_law, opened_law, offer_law, event_at, taken_at, refused_at, retry_at, offer_at_port, stood-append, joins_last, opened_items, opened_passed}
-use Rattle.gm_laws.proofs.PortLemmas.{not_both, slot_below, side_is, side_there, port_not_side, port_back, slot_back, port_below, total_takes, source_there}
+use Rattle.gm_laws.proofs.PortLemmas.{not_both, slot_below, side_is, port_not_side, port_back, slot_back, port_below, total_takes, source_there}
 use Rattle.gm_laws.proofs.Sides.{SideMoved, sided_law, side_offer, side_same}
 
 -- a lane that is busy is there
@@ -792,8 +792,15 @@ module _ (rs : List Route) (ram : ℕ) (s : XbarState) (ok : XbarOk rs s) where
         conserves = record {
           kept = lane_packets s.lanes;
           before = λ f c. omega (arith, held f s, ap (λ xs. weigh f (queued_packets xs)) e);
-          after = λ f c. omega (arith, weigh-append f (queued_packets (side_opened ws).lane.flow.items) (lane_packets (set s.lanes p b)), ap (λ (g : Flow). weigh f (queued_packets g.items)) (opens_flow ws), lanes-set f s.lanes p b here,
-              put_weigh f o (popped y) (now + s.latency) l.flow.items l.flow.out, (let k : f (popped y) ≡ f y = c y y.stack _ in k), ap (weigh f) facts.0);
+          after = λ f c. omega (
+            arith,
+            weigh-append f (queued_packets (side_opened ws).lane.flow.items) (lane_packets (set s.lanes p b)),
+            ap (λ (g : Flow). weigh f (queued_packets g.items)) (opens_flow ws),
+            lanes-set f s.lanes p b here,
+            put_weigh f o (popped y) (now + s.latency) l.flow.items l.flow.out,
+            (let k : f (popped y) ≡ f y = c y y.stack _ in k),
+            ap (weigh f) facts.0,
+          );
           numbers = λ f c. omega (arith, c y x.packet (fault_id x.packet x.packet.cmd));
         };
         few = λ q. omega (arith, facts.3 q);
@@ -835,8 +842,16 @@ module _ (rs : List Route) (ram : ℕ) (s : XbarState) (ok : XbarOk rs s) where
         acts = facts.1;
         conserves = record {
           kept = lane_packets ((side_opened ws).lane ∷ set s.lanes p b);
-          before = λ f c. omega (arith, held f s, ap (λ xs. weigh f (queued_packets xs)) e, weigh-append f (queued_packets (side_opened ws).lane.flow.items) (lane_packets (set s.lanes p b)), ap (λ (g : Flow). weigh f (queued_packets g.items)) (opens_flow ws),
-              lanes-set f s.lanes p b here, (let k : f y ≡ f x.packet = c x.packet x.packet.stack _ in k), one_weigh f l.flow.items (ok.one p));
+          before = λ f c. omega (
+            arith,
+            held f s,
+            ap (λ xs. weigh f (queued_packets xs)) e,
+            weigh-append f (queued_packets (side_opened ws).lane.flow.items) (lane_packets (set s.lanes p b)),
+            ap (λ (g : Flow). weigh f (queued_packets g.items)) (opens_flow ws),
+            lanes-set f s.lanes p b here,
+            (let k : f y ≡ f x.packet = c x.packet x.packet.stack _ in k),
+            one_weigh f l.flow.items (ok.one p),
+          );
           after = λ f c. omega (arith, ap (weigh f) facts.0);
           numbers = λ f c. refl;
         };
