@@ -26,7 +26,6 @@ use Rattle.gm_laws.proofs.AtomicCpus.{atomic_law}
 use Rattle.gm_laws.proofs.TimingCpus.{timing_law}
 use Rattle.gm_laws.proofs.Xbars.{xbar_law, xbar_passes}
 use Rattle.gm_laws.proofs.Servers.{server_law, server_passes}
-use Rattle.gm_laws.proofs.Xbars.{xbar_law, xbar_passes}
 
 pub blank_ok : FaceOk bare_face
 blank_ok = record {
