@@ -15,5 +15,3 @@ mod timing_cpu;
 
 pub use timing_cpu::TimingCpu;
 
-#[cfg(test)]
-mod tests;
