@@ -15,3 +15,5 @@ mod timing_cpu;
 
 pub use timing_cpu::TimingCpu;
 
+#[cfg(test)]
+mod tests;
