@@ -45,5 +45,5 @@ module _ (ram : ℕ) where
         → Handled ram (record { sys = s; items = Sent i (acts.SetLine b l) ∷ rest; entries = es }) (deliver_line (record { sys = s; items = rest; entries = es }) (wakes.Line b l) o) (line_moves s (wakes.Line b l) o)
     by None e f = cc
     by (Some k) e f = line_handled wakes_hold ram s rest es i b l k (omega (arith, active_below 0 k s.objects e)) h
-  handle_keeps s rest es (Sent i (acts.Atomic p x)) h = atomic_handled passes_hold ram s rest es i p.0 x h
+  handle_keeps s rest es (Sent i (acts.Atomic p x)) h = atomic_handled passes_hold ram s rest i p.0 x h es
   handle_keeps s rest es (Done i x l) h = done_handled wakes_hold ram s rest es i l x h.net.placed.0 h
