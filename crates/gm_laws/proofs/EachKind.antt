@@ -2,6 +2,7 @@
 use Rattle.std.proofs.Common.{◌≡◌, ℕ, ◌≤◌, is_some, true, false, List, [], ◌∷◌, refl, arith, inl, Option, Some, None, option_map}
 use Rattle.rv_step.specs.declared.arch.Arch.{Arch}
 use Rattle.gm_words.specs.Moves.{no_moves}
+use Rattle.gm_words.specs.Packet.{is_response}
 use Rattle.gm_words.specs.Routes.{Route}
 use Rattle.gm_words.specs.declared.answer.Answer.TheVariants as answers
 use Rattle.gm_words.specs.declared.kind.Kind.{Kind}
@@ -10,19 +11,21 @@ use Rattle.gm_words.specs.declared.packet.Packet.{Packet}
 use Rattle.gm_words.specs.declared.wake.Wake.{Wake}
 use Rattle.gm_words.specs.declared.wake.Wake.TheVariants as wakes
 use Rattle.gm_model.specs.Command.{arch_of}
-use Rattle.gm_model.specs.ObjState.{ObjState, Blank, AtomicCpu, Server, CpuStage, Rest, AwaitFetch, AwaitData}
+use Rattle.gm_model.specs.ObjState.{ObjState, Blank, AtomicCpu, TimingCpu, Xbar, Server, CpuStage, Rest, AwaitFetch, AwaitData}
 use Rattle.gm_model.specs.ObjectStep.{object_step, atomic_step, blank_step}
 use Rattle.gm_model.specs.Stepped.{Stepped, stays}
-use Rattle.gm_model.specs.View.{Mind, mind_with, atomic_doing, packets_in, mind_of, memory_of}
+use Rattle.gm_model.specs.View.{Mind, Doing, mind_with, atomic_doing, timing_doing, packets_in, mind_of, memory_of}
 use Rattle.gm_laws.specs.Words.{weigh}
 use Rattle.gm_laws.specs.Face.{FaceOk, MayWake, TellsDue, came_in}
 use Rattle.gm_laws.specs.Program.{core, MayThink, none}
 use Rattle.gm_laws.specs.Faces.{face_of, IsOk, Keeps, bare_face, atomic_toil}
 use Rattle.gm_laws.specs.Laws.{WakesHold, PassesHold}
 use Rattle.gm_laws.proofs.Counts.{only_self}
-use Rattle.gm_laws.proofs.Calm.{IsCalmWake, calm_line, calm_done}
+use Rattle.gm_laws.proofs.Calm.{IsCalmWake, calm_line, calm_done, no_both}
 use Rattle.gm_laws.proofs.AtomicCpus.{atomic_law}
+use Rattle.gm_laws.proofs.TimingCpus.{timing_law}
 use Rattle.gm_laws.proofs.Servers.{server_law, server_passes}
+use Rattle.gm_laws.proofs.Xbars.{xbar_law, xbar_passes}
 
 pub blank_ok : FaceOk bare_face
 blank_ok = record {
@@ -90,41 +93,58 @@ pub wakes_hold : WakesHold
 unfolding face_of IsOk object_step
 wakes_hold rs ram (Blank k) next w now ok may = blank_law rs ram k next w may
 wakes_hold rs ram (AtomicCpu s) next w now ok may = atomic_law rs ram s ok next now w may
+wakes_hold rs ram (TimingCpu s) next w now ok may = timing_law rs ram s ok next now w may
+wakes_hold rs ram (Xbar s) next w now ok may = xbar_law rs ram s ok next now w may
 wakes_hold rs ram (Server s) next w now ok may = server_law rs ram s ok next now w may
 
 pub passes_hold : PassesHold
 unfolding face_of IsOk atomic_step
-passes_hold rs ram (Blank k) x now ok fits request plain = absurd (cc fits)
-passes_hold rs ram (AtomicCpu s) x now ok fits request plain = absurd (cc fits)
-passes_hold rs ram (Server s) x now ok fits request plain = server_passes rs ram s ok x now fits plain
+passes_hold rs ram (Blank k) x now q ok there fits request plain = absurd (cc fits)
+passes_hold rs ram (AtomicCpu s) x now q ok there fits request plain = absurd (cc fits)
+passes_hold rs ram (TimingCpu s) x now q ok there fits request plain = absurd (no_both (is_response x.cmd) fits request)
+passes_hold rs ram (Xbar s) x now q ok there fits request plain = xbar_passes rs ram s x ok request plain
+passes_hold rs ram (Server s) x now q ok there fits request plain = server_passes rs ram s ok x now fits plain
 
 -- a face shows what the definitions of the view say
 pub face_packets : (o : ObjState) → (face_of o).packets ≡ packets_in o
 unfolding face_of packets_in
 face_packets (Blank k) = refl
 face_packets (AtomicCpu s) = refl
+face_packets (TimingCpu s) = refl
+face_packets (Xbar s) = refl
 face_packets (Server s) = refl
 
 pub face_mind : (o : ObjState) → (face_of o).mind ≡ mind_of o
 unfolding face_of mind_of
 face_mind (Blank k) = refl
 face_mind (AtomicCpu s) = refl
+face_mind (TimingCpu s) = refl
+face_mind (Xbar s) = refl
 face_mind (Server s) = refl
 
 pub face_memory : (o : ObjState) → (face_of o).memory ≡ memory_of o
 unfolding face_of memory_of
 face_memory (Blank k) = refl
 face_memory (AtomicCpu s) = refl
+face_memory (TimingCpu s) = refl
+face_memory (Xbar s) = refl
 face_memory (Server s) = refl
+
+some_mind : (d : Doing) (a : Option Arch) (m : Mind) → mind_with d a ≡ Some m → is_some a ≡ true
+some_mind d None m e = cc
+some_mind d (Some a) m e = refl
+
+mind_arch : (d : Doing) (a : Option Arch) → option_map (λ (m : Mind). m.arch) (mind_with d a) ≡ a
+mind_arch d None = refl
+mind_arch d (Some a) = refl
 
 -- the part with the hart is the active CPU
 pub active_mind : (o : ObjState) (m : Mind) → (face_of o).mind ≡ Some m → is_some (arch_of o) ≡ true
 unfolding face_of
 active_mind (Blank k) m e = cc
-active_mind (AtomicCpu s) m e = by s.arch e where
-  by : (a : Option Arch) → mind_with (atomic_doing s.stage) a ≡ Some m → is_some a ≡ true
-  by None e = cc
-  by (Some a) e = refl
+active_mind (AtomicCpu s) m e = some_mind (atomic_doing s.stage) s.arch m e
+active_mind (TimingCpu s) m e = some_mind (timing_doing s.stage) s.arch m e
+active_mind (Xbar s) m e = cc
 active_mind (Server s) m e = cc
 
 -- a served packet causes little more in an event
@@ -136,6 +156,8 @@ toil_le (AtomicCpu s) = by s.stage where
   by Rest = omega arith
   by AwaitFetch = omega arith
   by (AwaitData w l) = omega arith
+toil_le (TimingCpu s) = omega arith
+toil_le (Xbar s) = omega arith
 toil_le (Server s) = omega arith
 
 -- what isn't there shows nothing
@@ -147,8 +169,7 @@ blank_face = refl
 pub hart_shown : (o : ObjState) → option_map (λ (m : Mind). m.arch) (mind_of o) ≡ arch_of o
 unfolding mind_of
 hart_shown (Blank k) = refl
-hart_shown (AtomicCpu s) = by s.arch where
-  by : (a : Option Arch) → option_map (λ (m : Mind). m.arch) (mind_with (atomic_doing s.stage) a) ≡ a
-  by None = refl
-  by (Some a) = refl
+hart_shown (AtomicCpu s) = mind_arch (atomic_doing s.stage) s.arch
+hart_shown (TimingCpu s) = mind_arch (timing_doing s.stage) s.arch
+hart_shown (Xbar s) = refl
 hart_shown (Server s) = refl

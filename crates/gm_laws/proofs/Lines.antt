@@ -1,15 +1,19 @@
 -- Acts that tell levels of the hart's lines: to ports and packets they are nothing.
-use Rattle.std.proofs.Common.{◌≡◌, ℕ, ◌≤◌, Bool, true, false, List, [], ◌∷◌, refl, arith, inl, inr}
+use Rattle.std.proofs.Common.{◌≡◌, ℕ, ◌+◌, ◌≤◌, ◌⊎◌, ◌++◌, Bool, true, false, List, [], ◌∷◌, refl, arith, inl, inr}
 use Rattle.gm_words.specs.HartLine.{is_line}
 use Rattle.gm_words.specs.declared.act.Act.{Act}
 use Rattle.gm_words.specs.declared.act.Act.TheVariants as acts
+use Rattle.gm_words.specs.declared.answer.Answer.{Answer}
 use Rattle.gm_words.specs.declared.packet.Packet.{Packet}
+use Rattle.gm_words.specs.declared.wake.Wake.{Wake}
 use Rattle.gm_model.specs.Stepped.{line_change}
 use Rattle.gm_laws.specs.Bounds.{AreFit, speech}
-use Rattle.gm_laws.specs.Face.{Face, passed_packets}
+use Rattle.gm_laws.specs.Face.{Face, Law, CallsOne, passed_packets}
 use Rattle.gm_laws.specs.Faces.{AllActsOk, AllPassOk}
 use Rattle.gm_laws.specs.Fuel.{weight}
 use Rattle.gm_laws.specs.Words.{offers, calls, IsIn, offer_out}
+use Rattle.gm_laws.proofs.Counts.{IsIn-append}
+use Rattle.gm_laws.proofs.Sides.{offers-append, calls-append}
 
 -- each tells a level of a line that the hart has
 abbrev pub IsLevel : Act → Type 0
@@ -85,6 +89,53 @@ levels_hop f (acts.SetLine b l ∷ ls) h = (tt, levels_hop f ls h.1)
 levels_hop f (acts.Offer q x ∷ ls) h = absurd h.0
 levels_hop f (acts.CallRetry q ∷ ls) h = absurd h.0
 levels_hop f (acts.Atomic q x ∷ ls) h = absurd h.0
+
+-- beside them other acts are what they were
+pub levels_passed : (ls xs : List Act) → AllLevels ls → passed_packets (ls ++ xs) ≡ passed_packets xs
+levels_passed [] xs h = refl
+levels_passed (acts.SetLine b l ∷ ls) xs h = levels_passed ls xs h.1
+levels_passed (acts.Offer q x ∷ ls) xs h = absurd h.0
+levels_passed (acts.CallRetry q ∷ ls) xs h = absurd h.0
+levels_passed (acts.Atomic q x ∷ ls) xs h = absurd h.0
+
+pub levels_acts : (ls xs : List Act) → AllLevels ls → AllActsOk xs → AllActsOk (ls ++ xs)
+levels_acts [] xs h k = k
+levels_acts (acts.SetLine b l ∷ ls) xs h k = (h.0, levels_acts ls xs h.1 k)
+levels_acts (acts.Offer q x ∷ ls) xs h k = absurd h.0
+levels_acts (acts.CallRetry q ∷ ls) xs h k = absurd h.0
+levels_acts (acts.Atomic q x ∷ ls) xs h k = absurd h.0
+
+pub weight-append : (xs ys : List Act) → weight (xs ++ ys) ≡ weight xs + weight ys
+weight-append [] ys = omega arith
+weight-append (x ∷ xs) ys = omega (arith, weight-append xs ys)
+
+-- and the law of a wake stays one
+pub levels_law : (f : Face) (w : Wake) (g : Face) (answer : Answer) (ls xs : List Act) → AllLevels ls → Law f w g answer xs → Law f w g answer (ls ++ xs)
+levels_law f w g answer ls xs levels law =
+    record {
+      ok = law.ok;
+      ports = law.ports;
+      route = law.route;
+      sends = law.sends;
+      admits = law.admits;
+      passes = law.passes;
+      asked = λ p. omega (arith, law.asked p, offers-append p ls xs, no_offers p ls levels);
+      waits = law.waits;
+      listed = λ p. omega (arith, law.listed p, calls-append p ls xs, no_calls p ls levels);
+      joins = law.joins;
+      carries = λ p x h. law.carries p x (mine p x (IsIn-append (offer_out p x) ls xs h));
+      keeps = law.keeps;
+      again = λ p. omega (arith, law.again p, offers-append p ls xs);
+      feeds = law.feeds;
+      hungry = λ l h. wants l (law.hungry l h);
+    } where
+      mine : (p : ℕ) (x : Packet) → IsIn (offer_out p x) ls ⊎ IsIn (offer_out p x) xs → IsIn (offer_out p x) xs
+      mine p x (inl h) = absurd (none_in p x ls levels h)
+      mine p x (inr h) = h
+
+      wants : (l : ℕ) → (f.hungry l ≡ true) ⊎ CallsOne f xs l → (f.hungry l ≡ true) ⊎ CallsOne f (ls ++ xs) l
+      wants l (inl h) = inl h
+      wants l (inr c) = inr (record { port = c.port; stood = c.stood; called = omega (arith, c.called, calls-append c.port ls xs) })
 
 pub levels_fit : (ls : List Act) → AllLevels ls → AreFit ls
 levels_fit [] h = tt

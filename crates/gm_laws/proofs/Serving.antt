@@ -9,7 +9,7 @@ use Rattle.gm_model.specs.ObjState.{Device, Memory, Uart, Exit, UartState, Timer
 use Rattle.gm_words.specs.Packet.{is_response, read_response, write_response, carried_bytes, carried_number, is_write_back}
 use Rattle.gm_words.specs.Platform.{is_within}
 use Rattle.gm_words.specs.Routes.{Route, is_unmapped}
-use Rattle.gm_model.specs.Serve.{Served, served}
+use Rattle.gm_model.specs.Serve.{Served, served, ignored}
 use Rattle.gm_model.specs.Server.{serve, event_acts}
 use Rattle.gm_model.specs.Memory.{serve_memory}
 use Rattle.gm_model.specs.Uart.{serve_uart, first_byte, line_status}
@@ -25,7 +25,7 @@ use Rattle.gm_laws.proofs.Answering.{ServeFacts, one_serves, outside, ignored_fa
 use Rattle.gm_laws.proofs.Timers.{timer_facts, come_levels, come_light}
 use Rattle.gm_laws.proofs.Lines.{AllLevels}
 use Rattle.gm_laws.specs.Fuel.{weight}
-use Rattle.gm_model.specs.Timer.{timer_register}
+use Rattle.gm_model.specs.Timer.{timer_register, serve_timer}
 
 one_byte : (address count : ℕ) → in_uart address count ≡ true → 1 ≡ count
 one_byte address count h = grind (arith, common_steps, nat_tests, h)
@@ -127,33 +127,6 @@ module _ (rs : List Route) (ram : ℕ) (q : Packet) (now : ℕ) where
   exit_facts k cmds.ReadResp within c n m o = ignored_facts rs ram q (Exit k) (ap is_response c)
   exit_facts k cmds.WriteResp within c n m o = ignored_facts rs ram q (Exit k) (ap is_response c)
 
-  -- a write-back changes memory alone
-  pub write_back_range : (d : Device) (n : ℕ) → q.cmd ≡ cmds.WriteBack → device_range n (serve d q now).device ≡ device_range n d
-  write_back_range (Memory b) n c = by q.cmd (in_ram b q.addr q.size) c where
-    by : (k : Cmd) (t : Bool) → k ≡ cmds.WriteBack → device_range n (serve_memory b q k t).device ≡ device_range n (Memory b)
-    by cmds.WriteBack true e = refl
-    by cmds.WriteBack false e = refl
-    by cmds.Read t e = cc
-    by cmds.Write t e = cc
-    by cmds.ReadResp t e = cc
-    by cmds.WriteResp t e = cc
-  write_back_range (Uart u) n c = rw c refl
-  write_back_range (Exit k) n c = rw c refl
-  write_back_range (Timer t) n c = rw c refl
-
-  pub write_back_due : (d : Device) (n : ℕ) → q.cmd ≡ cmds.WriteBack → device_due (serve d q now).device n ≡ device_due d n
-  write_back_due (Memory b) n c = by q.cmd (in_ram b q.addr q.size) c where
-    by : (k : Cmd) (t : Bool) → k ≡ cmds.WriteBack → device_due (serve_memory b q k t).device n ≡ device_due (Memory b) n
-    by cmds.WriteBack true e = refl
-    by cmds.WriteBack false e = refl
-    by cmds.Read t e = cc
-    by cmds.Write t e = cc
-    by cmds.ReadResp t e = cc
-    by cmds.WriteResp t e = cc
-  write_back_due (Uart u) n c = rw c refl
-  write_back_due (Exit k) n c = rw c refl
-  write_back_due (Timer t) n c = rw c refl
-
   -- a request within the device's addresses, or a response
   pub serve_facts : (d : Device) → is_write_back q.cmd ≡ false → (is_response q.cmd || is_within q.addr (device_range ram d)) ≡ true
       → ((address : ℕ) → is_within address (device_range ram d) ≡ true → is_unmapped rs address ≡ false) → ServeFacts rs ram d q (serve d q now)
@@ -167,6 +140,26 @@ module _ (rs : List Route) (ram : ℕ) (q : Packet) (now : ℕ) where
   serve_facts (Timer t) n a mapped =
       let w : is_response q.cmd ≡ false → is_within q.addr (device_range ram (Timer t)) ≡ true = (λ e. subst (λ b. (b || is_within q.addr (device_range ram (Timer t))) ≡ true) e a) in
       timer_facts rs ram q now t q.cmd (timer_register q.addr q.size) refl n (λ e. mapped q.addr (w e)) (λ e m. outside m q.addr q.size 0x2000000 0x200ffff (w e) (omega arith))
+
+-- a write-back changes memory alone
+pub record WriteBackFacts (d : Device) (r : Served) : Type 0 where
+  pub range : (n : ℕ) → device_range n r.device ≡ device_range n d
+  pub due : (n : ℕ) → device_due r.device n ≡ due_after r.changes (device_due d n) n
+  pub own : (x : Bool) → due_after r.changes x 0 ≡ x
+  pub levels : AllLevels r.acts
+  pub light : weight r.acts ≤ 1
+
+ignored_back : (d e : Device) (q : Packet) → ((n : ℕ) → device_range n e ≡ device_range n d) → ((n : ℕ) → device_due e n ≡ device_due d n) → WriteBackFacts d (ignored e q)
+ignored_back d e q range due = record { range = range; due = due; own = λ x. refl; levels = tt; light = omega arith }
+
+pub write_back_facts : (q : Packet) (now : ℕ) (d : Device) → q.cmd ≡ cmds.WriteBack → WriteBackFacts d (serve d q now)
+write_back_facts q now (Memory b) c = subst (λ k. WriteBackFacts (Memory b) (serve_memory b q k (in_ram b q.addr q.size))) (sym c) (by (in_ram b q.addr q.size)) where
+  by : (t : Bool) → WriteBackFacts (Memory b) (serve_memory b q cmds.WriteBack t)
+  by true = ignored_back (Memory b) (Memory (ram_put b q.addr (carried_bytes q))) q (λ n. refl) (λ n. refl)
+  by false = ignored_back (Memory b) (Memory b) q (λ n. refl) (λ n. refl)
+write_back_facts q now (Uart u) c = subst (λ k. WriteBackFacts (Uart u) (serve_uart u q now k (in_uart q.addr q.size))) (sym c) (ignored_back (Uart u) (Uart u) q (λ n. refl) (λ n. refl))
+write_back_facts q now (Exit k) c = subst (λ o. WriteBackFacts (Exit k) (serve_exit k q o (in_exit q.addr q.size))) (sym c) (ignored_back (Exit k) (Exit k) q (λ n. refl) (λ n. refl))
+write_back_facts q now (Timer t) c = subst (λ k. WriteBackFacts (Timer t) (serve_timer t q now k (timer_register q.addr q.size))) (sym c) (ignored_back (Timer t) (Timer t) q (λ n. refl) (λ n. refl))
 
 -- what is asked for at the event of a device's own slot
 pub event_levels : (d : Device) → AllLevels (event_acts d)

@@ -119,8 +119,7 @@ pub record IsModest (o : ObjState) (next : ℕ) (w : Wake) (now : ℕ) (r : Step
   pub entries : length r.entries ≤ 2
   pub drawn : AreDrawn next r.moves.made r.next
   pub few : r.next ≤ next + 1
-  pub spoken : speech r.acts + part_speech r.state ≤ part_speech o + wake_speech w
-  pub silent : console_of r.entries ≡ []
+  pub spoken : length (console_of r.entries) + (speech r.acts + part_speech r.state) ≤ part_speech o + wake_speech w
 
 -- and what may come of a packet that is passed at once
 pub record IsModestPass (o : ObjState) (x : Packet) (now : ℕ) (v : Passed) : Type 0 where
