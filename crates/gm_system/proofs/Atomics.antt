@@ -31,6 +31,7 @@ use Rattle.gm_laws.specs.Faces.{face_of, AllItemsOk, AllPassOk}
 use Rattle.gm_system.specs.Net.{Clear, Net}
 use Rattle.gm_laws.specs.Program.{core, bad, seen, MayThink}
 use Rattle.gm_system.specs.System.{IsNet, IsProgram, IsSound, faces, others_packets, Handled}
+use Rattle.gm_system.specs.Ways.{HasWay, GoesFrom}
 use Rattle.gm_laws.proofs.Counts.{only_zero, offered-append, called-append, IsIn-append}
 use Rattle.gm_system.proofs.Debts.{pays_none}
 use Rattle.gm_system.proofs.Handles.{pop_none}
@@ -283,6 +284,19 @@ module _ (passes : PassesHold) (ram : ℕ) (s : Sys) (rest : List Item) (i port 
     there = h.net.wired.real k p g.there;
     fits = h.net.wired.fit k p x g.there g.sends;
   }
+
+  -- so a packet has a way from each part on it, and from the first
+  way_from : (n k : ℕ) → IsOnWay (faces s) h.net.wired.depth k n x → HasWay n s k x
+  unfolding HasWay
+  way_from zero k w = omega (arith, w.deep)
+  way_from (suc n) k w = (part_there s k w.port w.there, by (pass_at s k x).way (hop_keeps k (suc n) w) (λ j m. way_from n j m)) where
+    by : (v : Way) → WayKeeps s.routes ram (faces s k) (object_at s k) x (pass_at s k x) v → ((j : ℕ) → IsOnWay (faces s) h.net.wired.depth j n x → HasWay n s j x)
+        → GoesFrom (λ j. HasWay n s j x) s k x v
+    by (ways.Done l) done more = tt
+    by (ways.Pass p l) g more = (g, more (peer_in s.wires k p.0).part (next_hop k n p.0 w.deep g))
+
+  pub way_there : HasWay passes_max s (peer_in s.ways i port).part x
+  way_there = way_from passes_max (peer_in s.ways i port).part first_hop
 
   module _ (es : List Entry) where
     -- from part to part, as far as the fuel goes
