@@ -1,7 +1,7 @@
 // A configured CPU.
 ghost use Rattle.std.specs.Prelude.{◌≡◌, ◌^◌, ◌≤◌, IsTrue, false, Some};
 ghost use Rattle.ev_queue.specs.SlotTable.{gave};
-ghost use Rattle.gm_model.specs.AtomicCpu.{cpu_event, cpu_done, cpu_lined, is_resting, is_asleep, is_awake};
+ghost use Rattle.gm_model.specs.AtomicCpu.{cpu_event, cpu_done, cpu_lined, is_resting};
 ghost use Rattle.gm_model.specs.Command.{drain_step, resume_step, is_drained};
 ghost use Rattle.gm_words.specs.HartLine.{is_line};
 ghost use Rattle.gm_words.specs.declared.own.Own.TheVariants as owns;
@@ -9,9 +9,9 @@ ghost use Rattle.gc_base.specs.declared.limits.TheConstants.{PERIOD_MAX};
 ghost use Rattle.obj_core.specs.Out.{HasRoom};
 ghost use Rattle.obj_core.specs.Step.{Takes};
 
-use crate::octets::word;
 use crate::sequencer::Sequencer;
 use crate::stage::Stage;
+use cpu_hart::{is_asleep, is_awake, word};
 use ev_queue::{EventHandle, EventQueue};
 use gc_base::Tick;
 use gc_base::limits::TOP;
@@ -157,26 +157,6 @@ impl Configured {
         }
     }
 
-    /// Whether the hart is there, and asleep.
-    fn is_asleep(&self) -> bool
-        ensures { result ≡ is_asleep self.now.arch }
-    {
-        match &self.arch {
-            Some(a) => a.asleep,
-            None => false,
-        }
-    }
-
-    /// Whether the hart is there, and awake.
-    fn is_awake(&self) -> bool
-        ensures { result ≡ is_awake self.now.arch }
-    {
-        match &self.arch {
-            Some(a) => !a.asleep,
-            None => false,
-        }
-    }
-
     /// Whether it stands between two instructions, and its event isn't pending.
     pub(crate) fn drained(&self) -> bool
         ensures { result ≡ is_drained (shown (Some self.now)) }
@@ -191,7 +171,7 @@ impl Configured {
         ensures events { q.new ≡ with_changes q.old (shown (Some self.old)) (drain_step (shown (Some self.old))).changes }
     {
         self.sequencer.draining = true;
-        if self.is_resting() || self.is_asleep() {
+        if self.is_resting() || is_asleep(&self.arch) {
             q.deschedule(&self.sequencer.handle);
             self.sequencer.due = false;
         }
@@ -205,7 +185,7 @@ impl Configured {
         ensures events { q.new ≡ with_changes q.old (shown (Some self.old)) (resume_step (shown (Some self.old)) now).changes }
     {
         self.sequencer.draining = false;
-        if self.is_awake() {
+        if is_awake(&self.arch) {
             self.sequencer.goes_on(now, q);
         }
     }

@@ -7,9 +7,9 @@ ghost use Rattle.gm_model.specs.AtomicCpu.{cpu_ends, cpu_retires, cpu_traps};
 ghost use Rattle.obj_core.specs.Out.{HasRoom};
 ghost use Rattle.obj_core.specs.Step.{Takes};
 
-use crate::hart::{retire, trap};
 use crate::sequencer::Sequencer;
 use crate::stage::Stage;
+use cpu_hart::{retire, trap};
 use ev_queue::EventQueue;
 use gc_base::Tick;
 use gm_model::Entry;

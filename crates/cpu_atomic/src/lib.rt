@@ -8,10 +8,7 @@
 mod atomic_cpu;
 mod configured;
 mod end_of_instruction;
-mod hart;
 mod lines;
-mod octets;
-mod packets;
 mod requests;
 mod sequencer;
 mod stage;

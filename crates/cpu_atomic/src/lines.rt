@@ -6,8 +6,8 @@ ghost use Rattle.gm_words.specs.HartLine.{is_line};
 ghost use Rattle.obj_core.specs.Out.{HasRoom};
 ghost use Rattle.obj_core.specs.Step.{Takes};
 
-use crate::hart::set_line;
 use crate::sequencer::Sequencer;
+use cpu_hart::set_line;
 use ev_queue::EventQueue;
 use gc_base::Tick;
 use gc_base::limits::TOP;

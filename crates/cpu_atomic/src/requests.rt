@@ -8,31 +8,17 @@ ghost use Rattle.gm_words.specs.Platform.{is_in_ram};
 ghost use Rattle.obj_core.specs.Out.{HasRoom};
 ghost use Rattle.obj_core.specs.Step.{Takes};
 
-use crate::hart::demand;
-use crate::octets::number;
-use crate::packets;
 use crate::sequencer::Sequencer;
 use crate::stage::Stage;
+use cpu_hart::packets::{self, DATA_PORT, FETCH_PORT};
+use cpu_hart::{INSTRUCTION_ACCESS, LOAD_ACCESS, STORE_ACCESS, demand, number};
 use ev_queue::EventQueue;
 use gc_base::limits::TOP;
-use gc_base::{PortNo, Tick};
+use gc_base::Tick;
 use gm_model::{Act, Packet};
 use obj_core::Outbox;
 use rv_step::{Arch, Demand, take};
 use rv_table::decode;
-
-/// The port of the fetches.
-const FETCH: PortNo = PortNo(0);
-
-/// The port of the data accesses.
-const DATA: PortNo = PortNo(1);
-
-// Causes of traps, by the privileged manual's "Machine Cause Register".
-const INSTRUCTION_ACCESS: u64 = 1;
-
-const LOAD_ACCESS: u64 = 5;
-
-const STORE_ACCESS: u64 = 7;
 
 impl Sequencer {
     ghost use Rattle.gm_model.specs.ObjState.{AtomicCpu};
@@ -68,7 +54,7 @@ impl Sequencer {
             self.stage = Stage::AwaitFetch;
             let id = out.fresh();
             out.push(Act::Atomic {
-                port: FETCH,
+                port: FETCH_PORT,
                 pkt: packets::fetch(id, a.pc),
             });
         } else {
@@ -104,7 +90,7 @@ impl Sequencer {
                 self.stage = Stage::AwaitData { word, latency };
                 let id = out.fresh();
                 out.push(Act::Atomic {
-                    port: DATA,
+                    port: DATA_PORT,
                     pkt: packets::load(id, self.ram, addr, size),
                 });
             }
@@ -112,7 +98,7 @@ impl Sequencer {
                 self.stage = Stage::AwaitData { word, latency };
                 let id = out.fresh();
                 out.push(Act::Atomic {
-                    port: DATA,
+                    port: DATA_PORT,
                     pkt: packets::store(id, self.ram, addr, size, value),
                 });
             }

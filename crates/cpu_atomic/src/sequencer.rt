@@ -7,6 +7,7 @@ ghost use Rattle.gc_base.specs.declared.limits.TheConstants.{PERIOD_MAX};
 ghost use Rattle.cpu_atomic.specs.Kept.{kept_latency};
 
 use crate::stage::Stage;
+use cpu_hart::next_period;
 use ev_queue::{EventHandle, EventQueue};
 use gc_base::limits::TOP;
 use gc_base::{ObjId, Tick};
@@ -46,15 +47,6 @@ fn later(now: Tick, d: u64) -> Tick
 }
 
 impl Sequencer {
-    /// The next multiple of the period.
-    #[tactic(auto, using(crate::proofs::Next::next_multiple_formula))]
-    pub(crate) fn next_period(&self, now: Tick) -> Tick
-        requires { now ≤ TOP }
-        ensures { result ≡ next_multiple self.now.period now }
-    {
-        now.next_multiple(self.period)
-    }
-
     /// Its event comes at the next multiple of the period.
     pub(crate) fn goes_on(&mut self, now: Tick, q: &mut EventQueue)
         requires known { IsTrue (gave q.old.table self.old.object.0 0 50) }
@@ -65,7 +57,7 @@ impl Sequencer {
               rescheduled q.old.pending (event (next_multiple self.old.period now) 50 self.old.object.0 0);
         } }
     {
-        q.reschedule(&self.handle, self.next_period(now));
+        q.reschedule(&self.handle, next_period(now, self.period));
         self.due = true;
     }
 

@@ -24,8 +24,8 @@ use Rattle.gm_laws.proofs.Counts.{only_self}
 use Rattle.gm_laws.proofs.Calm.{IsCalmWake, calm_line, calm_done, no_both}
 use Rattle.gm_laws.proofs.AtomicCpus.{atomic_law}
 use Rattle.gm_laws.proofs.TimingCpus.{timing_law}
-use Rattle.gm_laws.proofs.Servers.{server_law, server_passes}
 use Rattle.gm_laws.proofs.Xbars.{xbar_law, xbar_passes}
+use Rattle.gm_laws.proofs.Servers.{server_law, server_passes}
 
 pub blank_ok : FaceOk bare_face
 blank_ok = record {
@@ -102,7 +102,7 @@ unfolding face_of IsOk atomic_step
 passes_hold rs ram (Blank k) x now q ok there fits request plain = absurd (cc fits)
 passes_hold rs ram (AtomicCpu s) x now q ok there fits request plain = absurd (cc fits)
 passes_hold rs ram (TimingCpu s) x now q ok there fits request plain = absurd (no_both (is_response x.cmd) fits request)
-passes_hold rs ram (Xbar s) x now q ok there fits request plain = xbar_passes rs ram s x ok request plain
+passes_hold rs ram (Xbar s) x now q ok there fits request plain = xbar_passes rs ram s ok x request plain
 passes_hold rs ram (Server s) x now q ok there fits request plain = server_passes rs ram s ok x now fits plain
 
 -- a face shows what the definitions of the view say

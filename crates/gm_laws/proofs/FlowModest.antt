@@ -1,12 +1,12 @@
 -- Each step of a flow or a lane is modest: it changes the event of its outlet alone, and offers what it holds.
-use Rattle.std.proofs.Common.{◌≡◌, ℕ, ◌+◌, ◌≤◌, Bool, true, false, List, [], ◌∷◌, ◌++◌, All, Some, slice_get, refl, subst, arith}
-use Rattle.std.proofs.lemmas.List.Elements.{All-nil, All-cons, All-head, All-tail, All-push}
+use Rattle.std.proofs.Common.{◌≡◌, ℕ, ◌+◌, ◌≤◌, Bool, true, false, List, [], ◌∷◌, ◌++◌, All, Some, slice_get, refl, arith}
+use Rattle.std.proofs.lemmas.List.Elements.{All-nil, All-cons, All-head, All-tail}
 use Rattle.gm_words.specs.Allowed.{MayPass}
 use Rattle.gm_words.specs.Changes.{Change, Schedule, Remove}
 use Rattle.gm_words.specs.Flow.{Queued, OutState, Quiet, Due, Asked, Waits, Flow, Lane}
 use Rattle.gm_words.specs.declared.act.Act.{Act}
 use Rattle.gm_words.specs.declared.packet.Packet.{Packet}
-use Rattle.gm_model.specs.Flows.{Outlet, Moved, LaneMoved, put_in, ask_in, hold_in, again_in, gone_in, next_in, moved, open_in, opened, taken_in}
+use Rattle.gm_model.specs.Flows.{Outlet, Moved, LaneMoved, put_in, ask_in, hold_in, again_in, gone_in, next_in, moved, open_in, taken_in}
 use Rattle.gm_model.specs.View.{queued_packets}
 use Rattle.gm_laws.specs.Bounds.{AreOwnChanges, AreTimely, AreFit, latest, speech}
 

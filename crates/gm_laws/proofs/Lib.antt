@@ -11,11 +11,14 @@ pub mod Answering
 pub mod Timers
 pub mod Serving
 pub mod Servers
+pub mod PortLemmas
+pub mod Xbars
 pub mod AtomicCpus
 pub mod TimingCpus
 pub mod StillModest
 pub mod FlowModest
 pub mod ServerModest
+pub mod XbarModest
 pub mod TimingModest
 pub mod EachKind
 pub mod Modest

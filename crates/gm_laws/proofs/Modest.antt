@@ -1,46 +1,32 @@
 -- Each rule is modest, by the cases of the rules.
-use Rattle.std.proofs.Common.{◌≡◌, ℕ, ◌+◌, ◌-◌, ◌^◌, ◌≤◌, ◌==◌, refl, ap, subst, arith, drop, Bool, true, false, cond, List, [], ◌∷◌, take, length, Option, Some, None}
+use Rattle.std.proofs.Common.{◌≡◌, ℕ, ◌+◌, ◌^◌, ◌≤◌, ◌==◌, refl, ap, subst, arith, Bool, true, false, cond, [], ◌∷◌, take, length, Option, Some, None}
 use Rattle.rv_step.specs.declared.arch.Arch.{Arch}
 use Rattle.rv_step.specs.declared.demand.Demand.{Demand}
 use Rattle.rv_step.specs.declared.demand.Demand.TheVariants as demand
 use Rattle.rv_step.specs.Bytes.{number}
 use Rattle.rv_step.specs.Demand.{need}
 use Rattle.rv_step.specs.Trap.{enter_trap, interrupt_cause}
-use Rattle.rv_step.specs.FlatMem.{in_ram}
-use Rattle.rv_step.specs.Flat.{uart_base, in_uart, in_exit}
 use Rattle.gm_words.specs.Allowed.{MayCome}
-use Rattle.gm_words.specs.Changes.{Schedule}
 use Rattle.gm_words.specs.Entries.{console_of}
 use Rattle.gm_words.specs.HartLine.{next_multiple}
-use Rattle.gm_words.specs.Packet.{read_response, write_response}
-use Rattle.gm_words.specs.Platform.{is_in_ram, slot_classes}
-use Rattle.gm_words.specs.declared.cmd.Cmd.{Cmd}
-use Rattle.gm_words.specs.declared.cmd.Cmd.TheVariants as cmds
+use Rattle.gm_words.specs.Platform.{is_in_ram}
 use Rattle.gm_words.specs.declared.kind.Kind.{Kind}
 use Rattle.gm_words.specs.declared.entry.Entry.{Entry}
 use Rattle.gm_words.specs.declared.packet.Packet.{Packet}
 use Rattle.gm_words.specs.declared.wake.Wake.{Wake}
 use Rattle.gm_words.specs.declared.wake.Wake.TheVariants as wakes
 use Rattle.gm_model.specs.AtomicCpu.{cpu_ends, cpu_asks, cpu_begins, cpu_event, cpu_fetched, cpu_accessed, cpu_done, cpu_line, cpu_lined, goes_on}
-use Rattle.gm_model.specs.ExitDevice.{serve_exit}
-use Rattle.gm_model.specs.Memory.{serve_memory}
-use Rattle.gm_model.specs.ObjState.{ObjState, Blank, AtomicCpu, TimingCpu, Server, AtomicCpuState, ServerState, CpuStage, Rest, AwaitFetch, AwaitData, Device, Memory, Uart, Exit, Timer, UartState, device_kind}
+use Rattle.gm_model.specs.ObjState.{ObjState, Blank, AtomicCpu, TimingCpu, Xbar, Server, AtomicCpuState, CpuStage, Rest, AwaitFetch, AwaitData}
 use Rattle.gm_model.specs.ObjectStep.{object_step, atomic_step}
-use Rattle.gm_model.specs.Serve.{served}
-use Rattle.gm_model.specs.Server.{serve, device_after_event, event_acts, server_event}
-use Rattle.gm_model.specs.Timer.{timer_register}
-use Rattle.gm_model.specs.Stepped.{Stepped, stays, drops, answering}
-use Rattle.gm_model.specs.Uart.{serve_uart, uart_read, uart_write, first_byte, line_status}
-use Rattle.gm_laws.specs.Bounds.{IsWithin, IsStageWithin, IsDeviceWithin, IsModest, IsModestPass, packet_speech, part_speech, stage_speech, wake_speech, RulesAreModest}
+use Rattle.gm_model.specs.Stepped.{stays}
+use Rattle.gm_laws.specs.Bounds.{IsWithin, IsStageWithin, IsModest, IsModestPass, packet_speech, part_speech, stage_speech, wake_speech, RulesAreModest}
 use Rattle.gm_laws.specs.Faces.{face_of}
 use Rattle.gm_laws.proofs.Bytes.{IsNarrow, need_narrow}
-use Rattle.gm_laws.proofs.Answering.{ServesModestly, few_served, spoken_served, quiet_modest, served_modest, fault_size}
-use Rattle.gm_laws.proofs.Lines.{levels_fit, no_speech}
 use Rattle.gm_laws.proofs.ServerModest.{server_modest, server_modest_pass}
 use Rattle.gm_laws.proofs.StillModest.{stays_modest, answered_modest, drops_modest}
 use Rattle.gm_laws.proofs.Ticks.{soon, next_bounds}
-use Rattle.gm_laws.proofs.Timers.{timer_modest}
 use Rattle.gm_laws.proofs.TimingModest.{timing_modest, timing_modest_pass}
+use Rattle.gm_laws.proofs.XbarModest.{xbar_modest, xbar_modest_pass}
 
 -- an entry that isn't of an access brings nothing to the console
 abbrev IsQuiet : Entry → Type 0
@@ -189,7 +175,7 @@ cpu_modest s next (wakes.Event slot) now h m = by (slot.0 == 0) where
   by : (b : Bool) → IsModest (AtomicCpu s) next (wakes.Event slot) now (cond b (cpu_event (record s { due = false }) next now s.arch s.stage) (stays (AtomicCpu s) next))
   by true = event_modest s next (wakes.Event slot) now h.0 h.1 false s.arch s.stage h.2 (omega arith)
   by false = stays_modest (AtomicCpu s) next (wakes.Event slot) now h
-cpu_modest s next (wakes.AtomicDone p latency) now h m = answered_modest (AtomicCpu s) next (wakes.AtomicDone p latency) now p _ (done_modest s next (wakes.AtomicDone p latency) now h.0 h.1 p latency s.arch s.stage refl h.2 m.1)
+cpu_modest s next (wakes.AtomicDone p latency) now h m = answered_modest (AtomicCpu s) next (wakes.AtomicDone p latency) now p _ _ (done_modest s next (wakes.AtomicDone p latency) now h.0 h.1 p latency s.arch s.stage refl h.2 m.1)
 cpu_modest s next (wakes.Line bit level) now h m = lined_modest s next (wakes.Line bit level) now h.0 h.1 bit level s.arch h.2
 cpu_modest s next (wakes.Offer port p) now h m = drops_modest (AtomicCpu s) next (wakes.Offer port p) now p h
 cpu_modest s next (wakes.Taken port) now h m = stays_modest (AtomicCpu s) next (wakes.Taken port) now h
@@ -210,6 +196,7 @@ wake_modest : (o : ObjState) (next : ℕ) (w : Wake) (now : ℕ) → IsWithin o 
 wake_modest (Blank k) next w now h m = blank_modest k next w now
 wake_modest (AtomicCpu s) next w now h m = cpu_modest s next w now h m
 wake_modest (TimingCpu s) next w now h m = timing_modest s next w now h
+wake_modest (Xbar s) next w now h m = xbar_modest s next w now h m
 wake_modest (Server s) next w now h m = server_modest s next w now h m
 
 pass_modest : (o : ObjState) (x : Packet) (now : ℕ) → IsWithin o → IsModestPass o x now (atomic_step o x now)
@@ -217,6 +204,7 @@ unfolding atomic_step IsWithin part_speech face_of
 pass_modest (Blank k) x now h = record { object = refl; slots = refl; ports = refl; within = h; own = tt; timely = tt; fit = tt; size = refl; soon = omega arith; entries = omega arith; spoken = omega arith }
 pass_modest (AtomicCpu s) x now h = record { object = refl; slots = refl; ports = refl; within = h; own = tt; timely = tt; fit = tt; size = refl; soon = omega arith; entries = omega arith; spoken = omega arith }
 pass_modest (TimingCpu s) x now h = timing_modest_pass s x now h
+pass_modest (Xbar s) x now h = xbar_modest_pass s x now h
 pass_modest (Server s) x now h = server_modest_pass s x now h
 
 pub rules_are_modest : RulesAreModest

@@ -1,13 +1,13 @@
 -- A server's rule is modest, by its cases.
 use Rattle.std.proofs.Common.{◌≡◌, ℕ, ◌+◌, ◌-◌, ◌≤◌, ◌==◌, cond, Bool, true, false, List, [], ◌∷◌, ◌++◌, drop, length, All, Option, Some, slice_get, refl, sym, ap, subst, arith, ◌∙◌}
-use Rattle.std.proofs.lemmas.List.Elements.{All-nil, All-cons, All-head, All-tail}
+use Rattle.std.proofs.lemmas.List.Elements.{All-cons, All-head, All-tail}
 use Rattle.rv_step.specs.FlatMem.{in_ram}
 use Rattle.rv_step.specs.Flat.{uart_base, in_uart, in_exit}
 use Rattle.gc_base.specs.declared.limits.TheConstants.{LATENCY_MAX}
 use Rattle.gm_words.specs.Allowed.{MayPass, MayCome}
 use Rattle.gm_words.specs.Changes.{Change, Schedule}
 use Rattle.gm_words.specs.Entries.{console_of}
-use Rattle.gm_words.specs.Flow.{Queued, OutState}
+use Rattle.gm_words.specs.Flow.{Queued}
 use Rattle.gm_words.specs.Moves.{Moves, AreDrawn, no_moves}
 use Rattle.gm_words.specs.Packet.{read_response, write_response, is_write_back}
 use Rattle.gm_words.specs.Platform.{slot_classes, serve_slot, own_slot, device_class}
@@ -31,7 +31,7 @@ use Rattle.gm_model.specs.Stepped.{stays}
 use Rattle.gm_model.specs.Timer.{timer_register}
 use Rattle.gm_model.specs.Uart.{serve_uart, uart_read, uart_write, first_byte, line_status}
 use Rattle.gm_model.specs.View.{queued_packets}
-use Rattle.gm_laws.specs.Bounds.{IsWithin, IsDeviceWithin, IsModest, IsModestPass, AreOwnChanges, AreTimely, packet_speech, part_speech, wake_speech, latest}
+use Rattle.gm_laws.specs.Bounds.{IsWithin, IsDeviceWithin, IsModest, IsModestPass, AreOwnChanges, AreTimely, packet_speech, part_speech, wake_speech}
 use Rattle.gm_laws.specs.Faces.{face_of}
 use Rattle.gm_laws.proofs.Answering.{ServesModestly, few_served, spoken_served, quiet_modest, served_modest, fault_size}
 use Rattle.gm_laws.proofs.FlowModest.{IsLaneModest, own-append, timely-append, fit-append, speech-append, ask_modest, hold_modest, again_modest, gone_modest, moved_modest, open_modest, taken_modest}

@@ -27,8 +27,8 @@ use Rattle.gm_words.specs.declared.entry.Entry.TheVariants as entries
 use Rattle.gm_words.specs.declared.packet.Packet.{Packet}
 use Rattle.gm_words.specs.declared.wake.Wake.{Wake}
 use Rattle.gm_words.specs.declared.wake.Wake.TheVariants as wakes
-use Rattle.gm_laws.specs.Words.{only, weigh, told, refused, retry, shown, offers}
-use Rattle.gm_laws.specs.Face.{Face, Law, MayWake, Conserves, came_in, went_out, passed_packets, due_before}
+use Rattle.gm_laws.specs.Words.{only, weigh, told, refused, retry, shown, offers, requests_of, responses_of}
+use Rattle.gm_laws.specs.Face.{Face, Law, MayWake, Conserves, came_in, went_out, head_weight, passed_packets, due_before}
 use Rattle.gm_laws.specs.Fuel.{weight, spend, starts}
 use Rattle.gm_laws.specs.Program.{core, bad, MayThink, Mindless, Serves, none, aside, seen}
 use Rattle.gm_laws.specs.Faces.{face_of, IsOk, Keeps, server_face, server_rest, server_admits, server_due, device_due, device_range, ServerOk, HeadMeets, AllMeet, AllActsOk, stood, IsFlow, IsLane, is_hungry, lanes_face}
@@ -283,47 +283,59 @@ module _ (rs : List Route) (ram : ℕ) (s : ServerState) (ok : ServerOk rs ram s
       })
       (λ k may. quiet_mindless w (record s { flow = m.flow; waiter = is_some_port (waiting_of s.waiter) }) m.acts [] refl calm.passed (λ n. none n))
 
-  pub server_taken : (next now : ℕ) → MayWake (server_face s) (wakes.Taken (record { 0 = 0 })) → Keeps rs ram (server_face s) (wakes.Taken (record { 0 = 0 })) (server_step s next (wakes.Taken (record { 0 = 0 })) now)
-  server_taken next now may =
-      let one : 1 ≤ asked_bit s.flow.out = omega (arith, may.told 0, only_self 0 1) in
+  gone_head : (now : ℕ) (items : List Queued) → (let f = (gone_in server_outlet (now + s.latency) items).flow in HeadMeets (λ x. is_response x.cmd) f.items f.out)
+  gone_head now [] = tt
+  gone_head now (x ∷ []) = tt
+  gone_head now (x ∷ y ∷ ys) = tt
+
+  gone_admits : (now : ℕ) (items : List Queued) → AllMeet (λ x. server_admits s x) items → AllMeet (λ x. server_admits s x) (gone_in server_outlet (now + s.latency) items).flow.items
+  gone_admits now [] h = tt
+  gone_admits now (x ∷ []) h = tt
+  gone_admits now (x ∷ y ∷ ys) h = h.1
+
+  -- the head is gone, and where there is room who waits is called
+  gone_beside : (w : Wake) (now : ℕ) (dev : Device) (es : List Entry) (v : Moves) (dcs : List Change) (ls : List Act) → ((n : ℕ) → device_range n dev ≡ device_range n s.device)
+      → ((n : ℕ) → (n == 0) ≡ false → device_due dev n ≡ due_after dcs (due_before w (device_due s.device n) n) n) → ((x : Bool) → due_after dcs x 0 ≡ x) → AllLevels ls → weight ls + 2 ≤ spend w answers.Nothing
+      → (let m : Moved = gone_in server_outlet (now + s.latency) s.flow.items in
+      ((f : Packet → ℕ) → weigh f (queued_packets s.flow.items) + came_in f w answers.Nothing
+      ≡ weigh f (queued_packets m.flow.items) + went_out f (server_face s) w + weigh f v.answered + weigh f v.absorbed + weigh f (requests_of v.served)) → v.made ≡ [] → v.served ≡ []
+      → ((p : ℕ) → 1 ≤ told w p → (es ≡ []) × (v ≡ no_moves) × (device_view dev ≡ device_view s.device))
+      → Beside w answers.Nothing s dev es v dcs ls (opened s.places m (waiting_of s.waiter)))
+  gone_beside w now dev es v dcs ls range due own levels light before none_made none_served quiet =
       let m : Moved = gone_in server_outlet (now + s.latency) s.flow.items in
       let room : Bool = nat_lt (length m.flow.items) s.places in
-      let b : LaneMoved = opened s.places m (waiting_of s.waiter) in
-      let silent = gone_silent server_outlet (now + s.latency) s.flow.items in
-      let acts = opened_passed m room (waiting_of s.waiter) silent in
-      let w : Wake = wakes.Taken (record { 0 = 0 }) in
-      by_lane w next answers.Nothing s.device [] no_moves [] [] b (taken_at 0)
-      (opened_law s.places server_outlet s.flow w m (waiting_of s.waiter) (gone_law server_outlet (now + s.latency) s.flow.items s.flow.out ok.lane one) silent (λ q. refl))
-      (record {
+      let acts = opened_passed m room (waiting_of s.waiter) (gone_silent server_outlet (now + s.latency) s.flow.items) in
+      record {
         back = opened_waiter room m s.waiter;
-        head = subst (λ (f : Flow). HeadMeets (λ x. is_response x.cmd) f.items f.out) (sym (opened_flow m room (waiting_of s.waiter))) (gone_head s.flow.items);
-        admits = subst (λ xs. AllMeet (λ x. server_admits s x) xs) (sym (opened_items m room (waiting_of s.waiter))) (gone_admits s.flow.items ok.admits);
-        range = λ n. refl;
-        due = λ n e. refl;
-        own = λ x. refl;
+        head = subst (λ (f : Flow). HeadMeets (λ x. is_response x.cmd) f.items f.out) (sym (opened_flow m room (waiting_of s.waiter))) (gone_head now s.flow.items);
+        admits = subst (λ xs. AllMeet (λ x. server_admits s x) xs) (sym (opened_items m room (waiting_of s.waiter))) (gone_admits now s.flow.items ok.admits);
+        range = range;
+        due = due;
+        own = own;
         passed = acts.0;
         acts = acts.1;
         conserves = record {
           kept = queued_packets m.flow.items;
-          before = λ f e. omega (arith, gone_weigh f server_outlet (now + s.latency) s.flow.items);
-          after = λ f e. omega (arith, ap (λ xs. weigh f (queued_packets xs)) (opened_items m room (waiting_of s.waiter)), ap (weigh f) acts.0);
-          numbers = λ f e. refl;
+          before = λ f e. before f;
+          after = λ f e. omega (arith, ap (λ xs. weigh f (queued_packets xs)) (opened_items m room (waiting_of s.waiter)), ap (weigh f) acts.0, ap (weigh f) none_made, ap (λ vs. weigh f (responses_of vs)) none_served);
+          numbers = λ f e. rw none_served refl;
         };
         few = λ p. omega (arith, acts.3 p);
-        levels = tt;
-        light = omega (arith, acts.2);
-        quiet = λ p h. (refl, refl, refl);
-      })
-      (λ k may. quiet_mindless w (record s { flow = b.lane.flow; waiter = is_some_port b.lane.waiting }) b.acts [] refl acts.0 (λ n. none n)) where
-        gone_head : (items : List Queued) → (let f = (gone_in server_outlet (now + s.latency) items).flow in HeadMeets (λ x. is_response x.cmd) f.items f.out)
-        gone_head [] = tt
-        gone_head (x ∷ []) = tt
-        gone_head (x ∷ y ∷ ys) = tt
+        levels = levels;
+        light = omega (arith, light, acts.2);
+        quiet = quiet;
+      }
 
-        gone_admits : (items : List Queued) → AllMeet (λ x. server_admits s x) items → AllMeet (λ x. server_admits s x) (gone_in server_outlet (now + s.latency) items).flow.items
-        gone_admits [] h = tt
-        gone_admits (x ∷ []) h = tt
-        gone_admits (x ∷ y ∷ ys) h = h.1
+  pub server_taken : (next now : ℕ) → MayWake (server_face s) (wakes.Taken (record { 0 = 0 })) → Keeps rs ram (server_face s) (wakes.Taken (record { 0 = 0 })) (server_step s next (wakes.Taken (record { 0 = 0 })) now)
+  server_taken next now may =
+      let one : 1 ≤ asked_bit s.flow.out = omega (arith, may.told 0, only_self 0 1) in
+      let m : Moved = gone_in server_outlet (now + s.latency) s.flow.items in
+      let b : LaneMoved = opened s.places m (waiting_of s.waiter) in
+      let w : Wake = wakes.Taken (record { 0 = 0 }) in
+      let beside = gone_beside w now s.device [] no_moves [] [] (λ n. refl) (λ n e. refl) (λ x. refl) tt (omega arith) (λ f. omega (arith, gone_weigh f server_outlet (now + s.latency) s.flow.items)) refl refl (λ p h. (refl, refl, refl)) in
+      by_lane w next answers.Nothing s.device [] no_moves [] [] b (taken_at 0)
+      (opened_law s.places server_outlet s.flow w m (waiting_of s.waiter) (gone_law server_outlet (now + s.latency) s.flow.items s.flow.out ok.lane one) (gone_silent server_outlet (now + s.latency) s.flow.items) (λ q. refl)) beside
+      (λ k may. quiet_mindless w (record s { flow = b.lane.flow; waiter = is_some_port b.lane.waiting }) b.acts [] refl beside.passed (λ n. none n))
 
   server_refused : (next now : ℕ) → MayWake (server_face s) (wakes.Refused (record { 0 = 0 })) → Keeps rs ram (server_face s) (wakes.Refused (record { 0 = 0 })) (server_step s next (wakes.Refused (record { 0 = 0 })) now)
   server_refused next now may =
@@ -455,50 +467,21 @@ module _ (rs : List Route) (ram : ℕ) (s : ServerState) (ok : ServerOk rs ram s
         let c = write_back_is x.packet.cmd k in
         let r : Served = serve s.device x.packet now in
         let facts = write_back_facts x.packet now s.device c in
-        let m : Moved = gone_in server_outlet (now + s.latency) (x ∷ xs) in
-        let room : Bool = nat_lt (length m.flow.items) s.places in
-        let b : LaneMoved = opened s.places m (waiting_of s.waiter) in
-        let silent = gone_silent server_outlet (now + s.latency) (x ∷ xs) in
-        let acts = opened_passed m room (waiting_of s.waiter) silent in
-        let flow : FlowLaw server_outlet s.flow (wakes.Event (record { 0 = 0 })) m.flow m.acts m.changes =
-        subst (λ ys. FlowLaw server_outlet (record { items = ys; out = s.flow.out }) (wakes.Event (record { 0 = 0 })) m.flow m.acts m.changes) (sym e) (drop_law server_outlet (now + s.latency) (x ∷ xs) s.flow.out lane due) in
-        by_lane (wakes.Event (record { 0 = 0 })) next answers.Nothing r.device r.entries (record no_moves { absorbed = x.packet ∷ [] }) r.changes r.acts b (event_at 0 0)
-        (opened_law s.places server_outlet s.flow (wakes.Event (record { 0 = 0 })) m (waiting_of s.waiter) flow silent (λ q. refl))
-        (record {
-          back = opened_waiter room m s.waiter;
-          head = subst (λ (f : Flow). HeadMeets (λ z. is_response z.cmd) f.items f.out) (sym (opened_flow m room (waiting_of s.waiter))) (left_head xs);
-          admits = subst (λ ys. AllMeet (λ z. server_admits s z) ys) (sym (opened_items m room (waiting_of s.waiter))) (left_admits xs admits.1);
-          range = facts.range;
-          due = λ n z. facts.due n ∙ ap (λ (t : Bool). due_after r.changes t n) (sym (ap (λ t. if t then false else device_due s.device n) z));
-          own = facts.own;
-          passed = acts.0;
-          acts = acts.1;
-          conserves = record {
-            kept = queued_packets m.flow.items;
-            before = λ f b. omega (arith, ap (λ ys. weigh f (queued_packets ys)) e, gone_weigh f server_outlet (now + s.latency) (x ∷ xs));
-            after = λ f b. omega (arith, ap (λ ys. weigh f (queued_packets ys)) (opened_items m room (waiting_of s.waiter)), ap (weigh f) acts.0);
-            numbers = λ f b. refl;
-          };
-          few = λ p. omega (arith, acts.3 p);
-          levels = facts.levels;
-          light = omega (arith, facts.light, acts.2);
-          quiet = λ p h. absurd (omega (arith, h));
-        })
-        (λ n may. absurd (no_write_back rs ram n x.packet (omega (arith, may.held, ap (λ ys. weigh (bad rs ram n) (queued_packets ys)) e)) c)) where
+        let gone : LaneMoved = opened s.places (gone_in server_outlet (now + s.latency) s.flow.items) (waiting_of s.waiter) in
+        subst (λ ys. (let b : LaneMoved = opened s.places (gone_in server_outlet (now + s.latency) ys) (waiting_of s.waiter) in
+        Keeps rs ram (server_face s) (wakes.Event (record { 0 = 0 })) (server_with (record s { device = r.device }) next answers.Nothing r.entries (record no_moves { absorbed = x.packet ∷ [] }) (record b { changes = r.changes ++ b.changes; acts = r.acts ++ b.acts })))) e
+        (by_lane (wakes.Event (record { 0 = 0 })) next answers.Nothing r.device r.entries (record no_moves { absorbed = x.packet ∷ [] }) r.changes r.acts gone (event_at 0 0)
+        (opened_law s.places server_outlet s.flow (wakes.Event (record { 0 = 0 })) (gone_in server_outlet (now + s.latency) s.flow.items) (waiting_of s.waiter) (drop_law server_outlet (now + s.latency) s.flow.items s.flow.out ok.lane due) (gone_silent server_outlet (now + s.latency) s.flow.items) (λ q. refl))
+        (gone_beside (wakes.Event (record { 0 = 0 })) now r.device r.entries (record no_moves { absorbed = x.packet ∷ [] }) r.changes r.acts facts.range
+        (λ n z. facts.due n ∙ ap (λ (t : Bool). due_after r.changes t n) (sym (ap (λ t. if t then false else device_due s.device n) z))) facts.own facts.levels (omega (arith, facts.light))
+        (λ f. omega (arith, gone_weigh f server_outlet (now + s.latency) s.flow.items, ap (λ ys. head_weight f (head_of ys)) e)) refl refl (λ p h. absurd (omega (arith, h))))
+        (λ n may. absurd (no_write_back rs ram n x.packet (omega (arith, may.held, ap (λ ys. weigh (bad rs ram n) (queued_packets ys)) e)) c))) where
           write_back_is : (k : Cmd) → is_write_back k ≡ true → k ≡ cmds.WriteBack
           write_back_is cmds.WriteBack h = refl
           write_back_is cmds.Read h = cc
           write_back_is cmds.Write h = cc
           write_back_is cmds.ReadResp h = cc
           write_back_is cmds.WriteResp h = cc
-
-          left_head : (ys : List Queued) → (let f = (gone_in server_outlet (now + s.latency) (x ∷ ys)).flow in HeadMeets (λ z. is_response z.cmd) f.items f.out)
-          left_head [] = tt
-          left_head (y ∷ ys) = tt
-
-          left_admits : (ys : List Queued) → AllMeet (λ z. server_admits s z) ys → AllMeet (λ z. server_admits s z) (gone_in server_outlet (now + s.latency) (x ∷ ys)).flow.items
-          left_admits [] h = tt
-          left_admits (y ∷ ys) h = h
     by_write false k =
         let r : Served = serve s.device x.packet now in
         let facts = serve_facts rs ram x.packet now s.device k (subst (λ n. (is_response x.packet.cmd || is_within x.packet.addr (device_range n s.device)) ≡ true) ok.size admits.0) ok.mapped in

@@ -1,5 +1,7 @@
 -- A rule that leaves a part as it is, is modest.
 use Rattle.std.proofs.Common.{ℕ, refl, arith}
+use Rattle.gm_words.specs.declared.answer.Answer.{Answer}
+use Rattle.gm_words.specs.declared.answer.Answer.TheVariants as answers
 use Rattle.gm_words.specs.declared.packet.Packet.{Packet}
 use Rattle.gm_words.specs.declared.wake.Wake.{Wake}
 use Rattle.gm_model.specs.ObjState.{ObjState}
@@ -22,9 +24,9 @@ stays_modest o next w now h = record {
   spoken = omega arith;
 }
 
--- what is consumed beside it changes nothing of it
-pub answered_modest : (o : ObjState) (next : ℕ) (w : Wake) (now : ℕ) (p : Packet) (r : Stepped) → IsModest o next w now r → IsModest o next w now (answering p r)
-answered_modest o next w now p r m = record {
+-- what is consumed beside it, and the answer, change nothing of it
+pub answered_modest : (o : ObjState) (next : ℕ) (w : Wake) (now : ℕ) (p : Packet) (a : Answer) (r : Stepped) → IsModest o next w now r → IsModest o next w now (record (answering p r) { answer = a })
+answered_modest o next w now p a r m = record {
   object = m.object;
   slots = m.slots;
   ports = m.ports;
@@ -39,4 +41,4 @@ answered_modest o next w now p r m = record {
 }
 
 pub drops_modest : (o : ObjState) (next : ℕ) (w : Wake) (now : ℕ) (p : Packet) → IsWithin o → IsModest o next w now (drops o next p)
-drops_modest o next w now p h = answered_modest o next w now p (stays o next) (stays_modest o next w now h)
+drops_modest o next w now p h = answered_modest o next w now p answers.Nothing (stays o next) (stays_modest o next w now h)

@@ -12,7 +12,6 @@ use Rattle.gm_words.specs.Entries.{console_of}
 use Rattle.gm_words.specs.HartLine.{with_line, next_multiple}
 use Rattle.gm_words.specs.Platform.{is_in_ram, fetch_port, data_port}
 use Rattle.gm_words.specs.declared.act.Act.{Act}
-use Rattle.gm_words.specs.declared.answer.Answer.{Answer}
 use Rattle.gm_words.specs.declared.answer.Answer.TheVariants as answers
 use Rattle.gm_words.specs.declared.entry.Entry.{Entry}
 use Rattle.gm_words.specs.declared.entry.Entry.TheVariants as entries
@@ -23,12 +22,13 @@ use Rattle.gm_model.specs.Accesses.{fetch_request, load_request, store_request}
 use Rattle.gm_model.specs.Flows.{offer_at}
 use Rattle.gm_model.specs.ObjState.{TimingCpu, TimingCpuState, TimingStage, Between, Fetch, Ready, Data, Asks, Held, Away}
 use Rattle.gm_model.specs.ObjectStep.{object_step, atomic_step}
-use Rattle.gm_model.specs.Stepped.{Stepped, answering, stays}
+use Rattle.gm_model.specs.Stepped.{stays}
 use Rattle.gm_model.specs.TimingCpu.{tcpu_in, tcpu_ends, tcpu_asks, tcpu_begins, tcpu_demands, tcpu_event, tcpu_fetched, tcpu_accessed, tcpu_response, tcpu_with, tcpu_taken, tcpu_refused, tcpu_called, tcpu_lined}
 use Rattle.gm_model.specs.View.{stage_packets}
 use Rattle.gm_laws.specs.Bounds.{IsWithin, IsModest, IsModestPass, AreFit, speech, part_speech}
 use Rattle.gm_laws.specs.Faces.{face_of}
 use Rattle.gm_laws.proofs.Bytes.{IsNarrow, need_narrow}
+use Rattle.gm_laws.proofs.StillModest.{answered_modest, drops_modest}
 use Rattle.gm_laws.proofs.Ticks.{soon, next_bounds}
 
 -- an entry that isn't of an access brings nothing to the console
@@ -202,22 +202,6 @@ module _ (s : TimingCpuState) (next : ℕ) (w : Wake) (now : ℕ) (small : 1 ≤
   lined_modest bit level (Some a) h =
       in_modest s.due (with_line a bit level) s.stage (entries.Line bit level ∷ []) (a.asleep && not (with_line a bit level).asleep && not s.common.draining) h (omega arith) refl
 
-  -- and it consumes a response, with an answer
-  answered_modest : (p : Packet) (a : Answer) (r : Stepped) → IsModest (TimingCpu s) next w now r → IsModest (TimingCpu s) next w now (record (answering p r) { answer = a })
-  answered_modest p a r m = record {
-    object = m.object;
-    slots = m.slots;
-    ports = m.ports;
-    within = m.within;
-    own = m.own;
-    timely = m.timely;
-    fit = m.fit;
-    entries = m.entries;
-    drawn = m.drawn;
-    few = m.few;
-    spoken = m.spoken;
-  }
-
 pub timing_modest : (s : TimingCpuState) (next : ℕ) (w : Wake) (now : ℕ) → IsWithin (TimingCpu s) → IsModest (TimingCpu s) next w now (object_step (TimingCpu s) next w now)
 unfolding object_step IsWithin
 timing_modest s next (wakes.Event slot) now h = by (slot.0 == 0) where
@@ -225,13 +209,12 @@ timing_modest s next (wakes.Event slot) now h = by (slot.0 == 0) where
   by true = event_modest s next (wakes.Event slot) now h.0 h.1 false s.arch s.stage h.2
   by false = stays_here s next (wakes.Event slot) now h.0 h.1 s.due h.2
 timing_modest s next (wakes.Offer port p) now h =
-    answered_modest s next (wakes.Offer port p) now h.0 h.1 p answers.Taken (tcpu_response s next now p s.arch s.stage) (response_modest s next (wakes.Offer port p) now h.0 h.1 p s.arch s.stage h.2)
+    answered_modest (TimingCpu s) next (wakes.Offer port p) now p answers.Taken (tcpu_response s next now p s.arch s.stage) (response_modest s next (wakes.Offer port p) now h.0 h.1 p s.arch s.stage h.2)
 timing_modest s next (wakes.Taken port) now h = taken_modest s next (wakes.Taken port) now h.0 h.1 s.stage h.2
 timing_modest s next (wakes.Refused port) now h = refused_modest s next (wakes.Refused port) now h.0 h.1 s.stage h.2 h.2
 timing_modest s next (wakes.Retry port) now h = called_modest s next (wakes.Retry port) now h.0 h.1 s.stage h.2 h.2
 timing_modest s next (wakes.Line bit level) now h = lined_modest s next (wakes.Line bit level) now h.0 h.1 bit level s.arch h.2
-timing_modest s next (wakes.AtomicDone p latency) now h =
-    answered_modest s next (wakes.AtomicDone p latency) now h.0 h.1 p answers.Nothing (stays (TimingCpu s) next) (stays_here s next (wakes.AtomicDone p latency) now h.0 h.1 s.due h.2)
+timing_modest s next (wakes.AtomicDone p latency) now h = drops_modest (TimingCpu s) next (wakes.AtomicDone p latency) now p h
 
 -- a packet that is passed to it is nobody's
 pub timing_modest_pass : (s : TimingCpuState) (x : Packet) (now : ℕ) → IsWithin (TimingCpu s) → IsModestPass (TimingCpu s) x now (atomic_step (TimingCpu s) x now)

@@ -1,10 +1,9 @@
 -- What a part owes to what is asked of it beside its wakes. This project's own laws.
-use Rattle.std.specs.Prelude.{◌≡◌, ℕ, ◌+◌, ◌≤◌, true, false, List, [], ◌∷◌, length, Option, Some, None}
+use Rattle.std.specs.Prelude.{◌≡◌, ℕ, true, List, Some}
 use Rattle.std.specs.Option.{option_map}
-use Rattle.rv_step.specs.Arch.{reset}
 use Rattle.gm_words.specs.Changes.{due_after}
 use Rattle.gm_words.specs.Routes.{Route}
-use Rattle.gm_model.specs.Command.{drain_step, resume_step, is_drained, with_input, with_own_bytes, own_bytes}
+use Rattle.gm_model.specs.Command.{drain_step, resume_step, with_input, with_own_bytes, own_bytes}
 use Rattle.gm_model.specs.Memory.{with_bytes_at}
 use Rattle.gm_model.specs.ObjState.{ObjState, object_of, slots_of}
 use Rattle.gm_model.specs.Stepped.{Commanded}

@@ -1,11 +1,11 @@
 -- Each kind's face, and what holds of each part by itself. This project's own rules.
-use Rattle.std.specs.Prelude.{◌≡◌, ℕ, ◌+◌, ◌<◌, ◌≤◌, ◌==◌, ◌&&◌, ◌||◌, Bool, true, false, not, if◌then◌else◌, List, [], ◌∷◌, length, sum_by, Option, Some, None}
+use Rattle.std.specs.Prelude.{◌≡◌, ℕ, ◌+◌, ◌<◌, ◌≤◌, ◌==◌, ◌&&◌, ◌||◌, nat_lt, Bool, true, false, not, if◌then◌else◌, List, [], ◌∷◌, length, sum_by, Option, Some, None}
 use Rattle.rv_step.specs.FlatMem.{ram_base}
 use Rattle.rv_step.specs.Flat.{uart_base, exit_base}
 use Rattle.gm_words.specs.Packet.{is_response}
 use Rattle.gm_words.specs.Flow.{Queued, OutState, Quiet, Due, Asked, Waits, Lane}
 use Rattle.gm_words.specs.Platform.{Range, range_of, is_within, cpu_slot, serve_slot, own_slot, timer_base}
-use Rattle.gm_words.specs.PortUses.{takes, is_source, is_destination, use_at, port_from, source_port, port_of_slot, is_side_slot, is_total}
+use Rattle.gm_words.specs.PortUses.{takes, is_source, is_destination, use_at, port_from, source_port, port_of_slot, is_side_slot, is_total, sides}
 use Rattle.gm_words.specs.Routes.{Route, is_unmapped}
 use Rattle.gm_words.specs.HartLine.{is_line}
 use Rattle.gm_words.specs.Moves.{no_moves}
@@ -183,8 +183,11 @@ StageOk (Data w h) = hand_core 1 h
 
 -- crossbar
 
+-- the event of a layer is pending at its slot, and at no other
 abbrev pub layer_due : XbarState → ℕ → Bool
-layer_due s n = if is_side_slot s.ports n then is_due_out s.side.lane.flow.out else is_due_out (lane_at s.lanes (port_of_slot s.ports n)).flow.out
+layer_due s n =
+    if is_side_slot s.ports n then is_due_out s.side.lane.flow.out
+    else (nat_lt n (length s.ports + sides s.ports) && is_due_out (lane_at s.lanes (port_of_slot s.ports n)).flow.out)
 
 -- what may be offered at a port: responses where requests come in, and requests to the addresses that go out there
 abbrev pub goes_out : PortUse → Packet → Bool

@@ -1,23 +1,16 @@
 -- All that the theorems on machines ask of the parts, whichever kinds they are of. This project's own laws.
-use Rattle.std.specs.Prelude.{◌≡◌, ℕ, ◌+◌, ◌≤◌, ◌<◌, true, false, List, [], ◌∷◌, length, slice_get, Some, None}
-use Rattle.gc_base.specs.declared.limits.TheConstants.{LATENCY_MAX, PERIOD_MAX}
-use Rattle.gm_words.specs.Allowed.{MayPass, MayCome}
-use Rattle.gm_words.specs.Changes.{Change, Schedule, Remove}
-use Rattle.gm_words.specs.Entries.{console_of}
-use Rattle.gm_words.specs.Moves.{AreDrawn}
+use Rattle.std.specs.Prelude.{◌≡◌, ℕ, ◌+◌, ◌≤◌, ◌<◌, true, false, List, [], ◌∷◌, length, None}
 use Rattle.gm_words.specs.Packet.{is_response, is_write_back}
 use Rattle.gm_words.specs.Routes.{Route}
-use Rattle.gm_words.specs.declared.act.Act.{Act}
-use Rattle.gm_words.specs.declared.act.Act.TheVariants as acts
 use Rattle.gm_words.specs.declared.answer.Answer.TheVariants as answers
 use Rattle.gm_words.specs.declared.packet.Packet.{Packet}
 use Rattle.gm_words.specs.declared.wake.Wake.{Wake}
 use Rattle.gm_words.specs.declared.wake.Wake.TheVariants as wakes
 use Rattle.gm_words.specs.declared.way.Way.{Way}
 use Rattle.gm_words.specs.declared.way.Way.TheVariants as ways
-use Rattle.gm_model.specs.ObjState.{ObjState, object_of, slots_of, latency_of}
+use Rattle.gm_model.specs.ObjState.{ObjState}
 use Rattle.gm_model.specs.ObjectStep.{object_step, atomic_step}
-use Rattle.gm_model.specs.Stepped.{Stepped, Passed}
+use Rattle.gm_model.specs.Stepped.{Passed}
 use Rattle.gm_laws.specs.Words.{offers}
 use Rattle.gm_laws.specs.Face.{Face, Law, MayWake, TellsDue, passed_packets}
 use Rattle.gm_laws.specs.Faces.{face_of, IsOk, Keeps, AllActsOk}

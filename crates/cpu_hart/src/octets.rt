@@ -6,7 +6,7 @@ ghost use Rattle.gm_words.specs.Packet.{with_front};
 
 /// The number of the first 4 bytes.
 #[inline(always)]
-pub(crate) fn word(m: &[u8]) -> u32
+pub fn word(m: &[u8]) -> u32
     requires { 4 ≤ length m.now }
     ensures { result ≡ number (take 4 m.now) }
 {
@@ -24,7 +24,7 @@ fn double(m: &[u8]) -> u64
 
 /// The number of the first bytes, so many of them.
 #[inline(always)]
-pub(crate) fn number(m: &[u8], size: u8) -> u64
+pub fn number(m: &[u8], size: u8) -> u64
     requires inside { 8 ≤ length m.now }
     requires size { IsSize size }
     ensures { result ≡ number (take size m.now) }

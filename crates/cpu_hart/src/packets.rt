@@ -6,19 +6,25 @@ ghost use Rattle.gm_words.specs.Platform.{is_in_ram};
 ghost use Rattle.gm_model.specs.Accesses.{fetch_request, load_request, store_request};
 
 use crate::octets::put_number;
-use gc_base::PktId;
+use gc_base::{PktId, PortNo};
 use gm_model::platform::RAM_BASE;
 use gm_model::{Cmd, Packet};
 
 /// The source of the fetches, as it is noted.
-const FETCH: u8 = 0;
+pub const FETCH_SOURCE: u8 = 0;
 
 /// The source of the data accesses.
-const DATA: u8 = 1;
+pub const DATA_SOURCE: u8 = 1;
+
+/// The port of the fetches.
+pub const FETCH_PORT: PortNo = PortNo(0);
+
+/// The port of the data accesses.
+pub const DATA_PORT: PortNo = PortNo(1);
 
 /// Whether so many bytes at an address lie in RAM of this size.
 #[inline(always)]
-pub(crate) fn in_ram(ram: u32, addr: u64, count: u8) -> bool
+pub fn in_ram(ram: u32, addr: u64, count: u8) -> bool
     ensures { result ≡ is_in_ram ram addr count }
 {
     addr >= RAM_BASE && addr - RAM_BASE + count as u64 <= ram as u64
@@ -45,27 +51,27 @@ fn request(id: PktId, src: u8, cmd: Cmd, addr: u64, size: u8, uncached: bool) ->
 
 /// The fetch of the word at pc.
 #[inline(always)]
-pub(crate) fn fetch(id: PktId, pc: u64) -> Packet
+pub fn fetch(id: PktId, pc: u64) -> Packet
     ensures { result ≡ fetch_request id.0 pc }
 {
-    request(id, FETCH, Cmd::Read, pc, 4, false)
+    request(id, FETCH_SOURCE, Cmd::Read, pc, 4, false)
 }
 
 /// The data access of a load.
 #[inline(always)]
-pub(crate) fn load(id: PktId, ram: u32, addr: u64, size: u8) -> Packet
+pub fn load(id: PktId, ram: u32, addr: u64, size: u8) -> Packet
     ensures { result ≡ load_request ram id.0 addr size }
 {
-    request(id, DATA, Cmd::Read, addr, size, !in_ram(ram, addr, size))
+    request(id, DATA_SOURCE, Cmd::Read, addr, size, !in_ram(ram, addr, size))
 }
 
 /// The data access of a store of v.
-pub(crate) fn store(id: PktId, ram: u32, addr: u64, size: u8, v: u64) -> Packet
+pub fn store(id: PktId, ram: u32, addr: u64, size: u8, v: u64) -> Packet
     requires { IsSize size }
     ensures { result ≡ store_request ram id.0 addr size v }
 {
     let uncached = !in_ram(ram, addr, size);
-    let mut p = request(id, DATA, Cmd::Write, addr, size, uncached);
+    let mut p = request(id, DATA_SOURCE, Cmd::Write, addr, size, uncached);
     put_number(&mut p.bytes, size, v);
     p
 }
