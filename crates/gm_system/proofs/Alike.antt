@@ -111,7 +111,7 @@ module _ (ram : ℕ) (s t : Sys) (h : IsSound ram s []) (a : IsAlike ram s t) (m
     apart = λ k p x l e. h.net.wired.apart k p x (omega (arith, l, ports_at k)) (sym (sends_at k p x) ∙ e);
     fit = λ k p x l e. ap (λ (f : Face). f.admits (peer_in s.wires k p).port x) (face (peer_in s.wires k p).part) ∙ h.net.wired.fit k p x (omega (arith, l, ports_at k)) (sym (sends_at k p x) ∙ e);
     depth = h.net.wired.depth;
-    falls = λ k p x g e. h.net.wired.falls k p x (sym (ap (λ (f : Face). f.passes p) (face k)) ∙ g) (sym (sends_at k p x) ∙ e);
+    falls = λ k p x l g e. h.net.wired.falls k p x (omega (arith, l, ports_at k)) (sym (ap (λ (f : Face). f.passes p) (face k)) ∙ g) (sym (sends_at k p x) ∙ e);
   }
 
   routed : IsRouted s.ways (faces t) h.net.wired.depth

@@ -280,7 +280,7 @@ module _ (passes : PassesHold) (ram : ℕ) (s : Sys) (rest : List Item) (i port 
   pub next_hop : (k n p : ℕ) → h.net.wired.depth k < suc n → GoesOn (faces s k) (object_at s k) x (pass_at s k x) p → IsOnWay (faces s) h.net.wired.depth (peer_in s.wires k p).part n x
   next_hop k n p deep g = record {
     port = (peer_in s.wires k p).port;
-    deep = omega (arith, deep, h.net.wired.falls k p x g.passes g.sends);
+    deep = omega (arith, deep, h.net.wired.falls k p x g.there g.passes g.sends);
     there = h.net.wired.real k p g.there;
     fits = h.net.wired.fit k p x g.there g.sends;
   }

@@ -1,7 +1,7 @@
 -- A machine is sound at its start in both modes, whatever bytes are in RAM and wherever the hart begins. This module alone knows the
 -- parts that the platform's table has: what holds of each part at its start, and that the tables of wires, ways and ranges meet what is
 -- asked of them, by computation over the table.
-use Rattle.std.proofs.Common.{◌≡◌, ℕ, zero, suc, ◌+◌, ◌-◌, ◌*◌, ◌^◌, ◌<◌, ◌≤◌, ◌==◌, ◌&&◌, ◌||◌, nat_le, cond, if◌then◌else◌, Bool, true, false, not, IsTrue, All, List, [], ◌∷◌, ◌++◌, refl, sym, ◌∙◌, ap, subst, arith, Option, Some, None, is_none, length, map, replicate, get_or, sum_by, ◌⊎◌, inl, inr}
+use Rattle.std.proofs.Common.{◌≡◌, ℕ, zero, suc, ◌+◌, ◌-◌, ◌*◌, ◌^◌, ◌<◌, ◌≤◌, ◌==◌, ◌&&◌, ◌||◌, nat_le, nat_lt, cond, if◌then◌else◌, Bool, true, false, not, IsTrue, All, List, [], ◌∷◌, ◌++◌, refl, sym, ◌∙◌, ap, subst, arith, Option, Some, None, is_none, length, map, replicate, get_or, sum_by, ◌⊎◌, inl, inr}
 use Rattle.std.proofs.Math.ListN.{get_or-map}
 use Rattle.std.proofs.lemmas.List.{length-replicate}
 use Rattle.std.proofs.lemmas.List.Sums.{sum_by-cons}
@@ -20,7 +20,7 @@ use Rattle.gm_words.specs.Counts.{AreUpTo, no_counts}
 use Rattle.gm_words.specs.Flow.{Quiet, Lane, empty_lane, quiet_flow}
 use Rattle.gm_words.specs.Packet.{is_response}
 use Rattle.gm_words.specs.Platform.{Part, End, Range, platform, part_classes, port_at, is_within, is_in_ram, range_of, serve_slot, timer_base, out_to, out_to_nobody, corebus_ports, membus_ports, wires_of, ways_of}
-use Rattle.gm_words.specs.PortUses.{takes, is_source, is_destination, is_total, last_address, used, fore, use_at, port_from, port_of_slot, is_side_slot, source_from, source_port, or_first}
+use Rattle.gm_words.specs.PortUses.{takes, is_source, is_destination, is_total, last_address, used, fore, use_at, port_from, port_of_slot, is_side_slot, sides, source_from, source_port, or_first}
 use Rattle.gm_words.specs.Routes.{Route, destination, is_unmapped, route_to, routes_of}
 use Rattle.gm_words.specs.Slots.{gave_from, given_table}
 use Rattle.gm_words.specs.declared.kind.Kind.TheVariants as kinds
@@ -239,6 +239,10 @@ parts_at c b atomic timing m =
 abbrev ranges : Config → List Route
 ranges c = routes_of 0 (platform c)
 
+-- and the peers of ports
+abbrev peers : Config → ℕ → ℕ → End
+peers c k p = peer_in (wires_of (platform c)) k p
+
 -- the machine with these parts
 abbrev begun_at : Config → List ObjState → Sys
 begun_at c os = record {
@@ -337,10 +341,10 @@ module _ (c : Config) (v : IsValidConfig c) (b : Bool) where
     by_source p false e = source
 
     late : (slot : ℕ) → layer_due (xbar_at c b n latency us) slot ≡ false
-    late slot = by (is_side_slot us slot) where
-      by : (a : Bool) → cond a false (is_due_out (lane_at (replicate (length us) empty_lane) (port_of_slot us slot)).flow.out) ≡ false
-      by true = refl
-      by false = rw (empty_at (length us) (port_of_slot us slot)) refl
+    late slot = by (is_side_slot us slot) (nat_lt slot (length us + sides us)) where
+      by : (a e : Bool) → cond a false (e && is_due_out (lane_at (replicate (length us) empty_lane) (port_of_slot us slot)).flow.out) ≡ false
+      by true e = refl
+      by false e = rw (empty_at (length us) (port_of_slot us slot)) (and_false e)
 
     hungry : (l : ℕ) → (face_of (Xbar (xbar_at c b n latency us))).hungry l ≡ false
     hungry l = rw (empty_at (length us) l) (and_false (l == length (replicate (length us) empty_lane)))
@@ -375,47 +379,30 @@ module _ (c : Config) (v : IsValidConfig c) (b : Bool) where
     far = grind (arith, nat_tests, v.timer_period.0)
 
   module _ (atomic timing : Option Arch) (m : List ℕ) where
-    begins : AllParts (BeginsWell (ranges c) c.system_ram) (parts_at c b atomic timing m)
-    unfolding IsRangeIn source_from
-    begins = (
-      acpu_begins atomic,
-      (
-        xbar_begins 1 c.corebus_latency core_uses refl v.corebus_latency.1 core_mapped,
-        (
-          server_begins 2 c.exit_latency 1 (Exit None) (inr (inr (inl refl))) (omega arith) v.exit_latency.1 tt (λ slot. refl),
-          (
-            server_begins 3 c.mem_latency c.mem_queue (Memory m) (inr (inr (inr (inl refl)))) v.mem_queue.0 v.mem_latency.1 tt (λ slot. refl),
-            (
-              xbar_begins 4 c.membus_latency (mem_uses c) refl v.membus_latency.1 mem_mapped,
-              (
-                tcpu_begins timing,
-                (
-                  server_begins 6 c.timer_latency 1 (Timer (timer_start c.timer_period)) (inr (inr (inr (inr (inr (inr (inl refl))))))) (omega arith) v.timer_latency.1 v.timer_period nothing_awaited,
-                  (server_begins 7 c.uart_latency 1 (Uart (record { chartime = c.uart_chartime; busy = false; input = [] })) (inr (inr (inr (inr (inr (inr (inr (inl refl)))))))) (omega arith) v.uart_latency.1 v.uart_chartime.1 (λ slot. refl), tt),
-                ),
-              ),
-            ),
-          ),
-        ),
-      ),
-    )
-
     begun : (k : ℕ) → BeginsWell (ranges c) c.system_ram (get_or (parts_at c b atomic timing m) k nobody)
-    begun = each (BeginsWell (ranges c) c.system_ram) nobody_begins (parts_at c b atomic timing m) begins
+    unfolding IsRangeIn source_from
+    begun zero = acpu_begins atomic
+    begun (suc zero) = xbar_begins 1 c.corebus_latency core_uses refl v.corebus_latency.1 core_mapped
+    begun (suc (suc zero)) = server_begins 2 c.exit_latency 1 (Exit None) (inr (inr (inl refl))) (omega arith) v.exit_latency.1 tt (λ slot. refl)
+    begun (suc (suc (suc zero))) = server_begins 3 c.mem_latency c.mem_queue (Memory m) (inr (inr (inr (inl refl)))) v.mem_queue.0 v.mem_latency.1 tt (λ slot. refl)
+    begun (suc (suc (suc (suc zero)))) = xbar_begins 4 c.membus_latency (mem_uses c) refl v.membus_latency.1 mem_mapped
+    begun (suc (suc (suc (suc (suc zero))))) = tcpu_begins timing
+    begun (suc (suc (suc (suc (suc (suc zero)))))) =
+        server_begins 6 c.timer_latency 1 (Timer (timer_start c.timer_period)) (inr (inr (inr (inr (inr (inr (inl refl))))))) (omega arith) v.timer_latency.1 v.timer_period nothing_awaited
+    begun (suc (suc (suc (suc (suc (suc (suc zero))))))) =
+        server_begins 7 c.uart_latency 1 (Uart (record { chartime = c.uart_chartime; busy = false; input = [] })) (inr (inr (inr (inr (inr (inr (inr (inl refl)))))))) (omega arith) v.uart_latency.1 v.uart_chartime.1 (λ slot. refl)
+    begun (suc (suc (suc (suc (suc (suc (suc (suc k)))))))) = nobody_begins
 
     -- The tables.
 
     abbrev f : ℕ → Face
     f k = face_of (get_or (parts_at c b atomic timing m) k nobody)
 
-    abbrev peers : ℕ → ℕ → End
-    peers = peer_in (wires_of (platform c))
-
     -- a packet that is passed on comes from the core's bus to the memory's, and from there to a server
     abbrev depths : ℕ → ℕ
     depths k = if k == 1 then 2 else if k == 4 then 1 else 0
 
-    both : (k p : ℕ) → peer_in (wires_of (platform c)) (peer_in (wires_of (platform c)) k p).part (peer_in (wires_of (platform c)) k p).port ≡ port_at k p
+    both : (k p : ℕ) → peers c (peers c k p).part (peers c k p).port ≡ port_at k p
     both zero p = refl
     both (suc zero) zero = refl
     both (suc zero) (suc zero) = refl
@@ -442,114 +429,50 @@ module _ (c : Config) (v : IsValidConfig c) (b : Bool) where
     both (suc (suc (suc (suc (suc (suc (suc zero))))))) (suc p) = refl
     both (suc (suc (suc (suc (suc (suc (suc (suc k)))))))) p = refl
 
-    real : (k p : ℕ) → p < (f k).ports → (peer_in (wires_of (platform c)) k p).port < (f (peer_in (wires_of (platform c)) k p).part).ports
-    unfolding face_of
-    real zero p l = absurd (omega (arith, l))
-    real (suc zero) zero l = omega arith
-    real (suc zero) (suc zero) l = omega arith
-    real (suc zero) (suc (suc zero)) l = omega arith
-    real (suc zero) (suc (suc (suc zero))) l = omega arith
-    real (suc zero) (suc (suc (suc (suc p)))) l = absurd (omega (arith, l))
-    real (suc (suc zero)) zero l = omega arith
-    real (suc (suc zero)) (suc p) l = absurd (omega (arith, l))
-    real (suc (suc (suc zero))) zero l = omega arith
-    real (suc (suc (suc zero))) (suc p) l = absurd (omega (arith, l))
-    real (suc (suc (suc (suc zero)))) zero l = omega arith
-    real (suc (suc (suc (suc zero)))) (suc zero) l = omega arith
-    real (suc (suc (suc (suc zero)))) (suc (suc zero)) l = omega arith
-    real (suc (suc (suc (suc zero)))) (suc (suc (suc zero))) l = omega arith
-    real (suc (suc (suc (suc zero)))) (suc (suc (suc (suc zero)))) l = omega arith
-    real (suc (suc (suc (suc zero)))) (suc (suc (suc (suc (suc zero))))) l = omega arith
-    real (suc (suc (suc (suc zero)))) (suc (suc (suc (suc (suc (suc p)))))) l = absurd (omega (arith, l))
-    real (suc (suc (suc (suc (suc zero))))) zero l = omega arith
-    real (suc (suc (suc (suc (suc zero))))) (suc zero) l = omega arith
-    real (suc (suc (suc (suc (suc zero))))) (suc (suc p)) l = absurd (omega (arith, l))
-    real (suc (suc (suc (suc (suc (suc zero)))))) zero l = omega arith
-    real (suc (suc (suc (suc (suc (suc zero)))))) (suc p) l = absurd (omega (arith, l))
-    real (suc (suc (suc (suc (suc (suc (suc zero))))))) zero l = omega arith
-    real (suc (suc (suc (suc (suc (suc (suc zero))))))) (suc p) l = absurd (omega (arith, l))
-    real (suc (suc (suc (suc (suc (suc (suc (suc k)))))))) p l = absurd (omega (arith, l))
+    -- what is asked of each port
+    record IsPort (k p : ℕ) : Type 0 where
+      real : (peers c k p).port < (f (peers c k p).part).ports
+      apart : (x : Packet) → (f k).sends p x ≡ true → (peers c k p).part ≡ k → ⊥
+      fit : (x : Packet) → (f k).sends p x ≡ true → (f (peers c k p).part).admits (peers c k p).port x ≡ true
+      falls : (x : Packet) → (f k).passes p ≡ true → (f k).sends p x ≡ true → depths (peers c k p).part < depths k
 
-    apart : (k p : ℕ) (x : Packet) → p < (f k).ports → (f k).sends p x ≡ true → (peer_in (wires_of (platform c)) k p).part ≡ k → ⊥
+    port : (k p : ℕ) → p < (f k).ports → IsPort k p
     unfolding face_of
-    apart zero p x l h e = omega (arith, l)
-    apart (suc zero) zero x l h e = omega (arith, e)
-    apart (suc zero) (suc zero) x l h e = omega (arith, e)
-    apart (suc zero) (suc (suc zero)) x l h e = cc h
-    apart (suc zero) (suc (suc (suc zero))) x l h e = omega (arith, e)
-    apart (suc zero) (suc (suc (suc (suc p)))) x l h e = omega (arith, l)
-    apart (suc (suc zero)) zero x l h e = omega (arith, e)
-    apart (suc (suc zero)) (suc p) x l h e = omega (arith, l)
-    apart (suc (suc (suc zero))) zero x l h e = omega (arith, e)
-    apart (suc (suc (suc zero))) (suc p) x l h e = omega (arith, l)
-    apart (suc (suc (suc (suc zero)))) zero x l h e = omega (arith, e)
-    apart (suc (suc (suc (suc zero)))) (suc zero) x l h e = omega (arith, e)
-    apart (suc (suc (suc (suc zero)))) (suc (suc zero)) x l h e = omega (arith, e)
-    apart (suc (suc (suc (suc zero)))) (suc (suc (suc zero))) x l h e = omega (arith, e)
-    apart (suc (suc (suc (suc zero)))) (suc (suc (suc (suc zero)))) x l h e = omega (arith, e)
-    apart (suc (suc (suc (suc zero)))) (suc (suc (suc (suc (suc zero))))) x l h e = nobody_takes (is_response x.cmd) x.addr h
-    apart (suc (suc (suc (suc zero)))) (suc (suc (suc (suc (suc (suc p)))))) x l h e = omega (arith, l)
-    apart (suc (suc (suc (suc (suc zero))))) zero x l h e = omega (arith, e)
-    apart (suc (suc (suc (suc (suc zero))))) (suc zero) x l h e = omega (arith, e)
-    apart (suc (suc (suc (suc (suc zero))))) (suc (suc p)) x l h e = omega (arith, l)
-    apart (suc (suc (suc (suc (suc (suc zero)))))) zero x l h e = omega (arith, e)
-    apart (suc (suc (suc (suc (suc (suc zero)))))) (suc p) x l h e = omega (arith, l)
-    apart (suc (suc (suc (suc (suc (suc (suc zero))))))) zero x l h e = omega (arith, e)
-    apart (suc (suc (suc (suc (suc (suc (suc zero))))))) (suc p) x l h e = omega (arith, l)
-    apart (suc (suc (suc (suc (suc (suc (suc (suc k)))))))) p x l h e = omega (arith, l)
-
-    fit : (k p : ℕ) (x : Packet) → p < (f k).ports → (f k).sends p x ≡ true → (f (peer_in (wires_of (platform c)) k p).part).admits (peer_in (wires_of (platform c)) k p).port x ≡ true
-    unfolding face_of
-    fit zero p x l h = absurd (omega (arith, l))
-    fit (suc zero) zero x l h = h
-    fit (suc zero) (suc zero) x l h = h
-    fit (suc zero) (suc (suc zero)) x l h = absurd (cc h)
-    fit (suc zero) (suc (suc (suc zero))) x l h = refl
-    fit (suc zero) (suc (suc (suc (suc p)))) x l h = absurd (omega (arith, l))
-    fit (suc (suc zero)) zero x l h = refl
-    fit (suc (suc zero)) (suc p) x l h = absurd (omega (arith, l))
-    fit (suc (suc (suc zero))) zero x l h = refl
-    fit (suc (suc (suc zero))) (suc p) x l h = absurd (omega (arith, l))
-    fit (suc (suc (suc (suc zero)))) zero x l h = refl
-    fit (suc (suc (suc (suc zero)))) (suc zero) x l h = out_admitted (is_response x.cmd) (range_of ram_base c.system_ram) x.addr (grind (arith, nat_tests, v.ram_most)) h
-    fit (suc (suc (suc (suc zero)))) (suc (suc zero)) x l h = out_admitted (is_response x.cmd) (range_of uart_base 0x1000) x.addr refl h
-    fit (suc (suc (suc (suc zero)))) (suc (suc (suc zero))) x l h = out_admitted (is_response x.cmd) (range_of timer_base 0x10000) x.addr refl h
-    fit (suc (suc (suc (suc zero)))) (suc (suc (suc (suc zero)))) x l h = out_admitted (is_response x.cmd) (range_of exit_base 0x1000) x.addr refl h
-    fit (suc (suc (suc (suc zero)))) (suc (suc (suc (suc (suc zero))))) x l h = refl
-    fit (suc (suc (suc (suc zero)))) (suc (suc (suc (suc (suc (suc p)))))) x l h = absurd (omega (arith, l))
-    fit (suc (suc (suc (suc (suc zero))))) zero x l h = refl
-    fit (suc (suc (suc (suc (suc zero))))) (suc zero) x l h = refl
-    fit (suc (suc (suc (suc (suc zero))))) (suc (suc p)) x l h = absurd (omega (arith, l))
-    fit (suc (suc (suc (suc (suc (suc zero)))))) zero x l h = refl
-    fit (suc (suc (suc (suc (suc (suc zero)))))) (suc p) x l h = absurd (omega (arith, l))
-    fit (suc (suc (suc (suc (suc (suc (suc zero))))))) zero x l h = refl
-    fit (suc (suc (suc (suc (suc (suc (suc zero))))))) (suc p) x l h = absurd (omega (arith, l))
-    fit (suc (suc (suc (suc (suc (suc (suc (suc k)))))))) p x l h = absurd (omega (arith, l))
-
-    falls : (k p : ℕ) (x : Packet) → (f k).passes p ≡ true → (f k).sends p x ≡ true → depths (peer_in (wires_of (platform c)) k p).part < depths k
-    unfolding face_of
-    falls zero p x g h = absurd (cc g)
-    falls (suc zero) zero x g h = absurd (cc g)
-    falls (suc zero) (suc zero) x g h = absurd (cc g)
-    falls (suc zero) (suc (suc zero)) x g h = absurd (cc g)
-    falls (suc zero) (suc (suc (suc zero))) x g h = omega arith
-    falls (suc zero) (suc (suc (suc (suc p)))) x g h = absurd (cc g)
-    falls (suc (suc zero)) p x g h = absurd (cc g)
-    falls (suc (suc (suc zero))) p x g h = absurd (cc g)
-    falls (suc (suc (suc (suc zero)))) zero x g h = absurd (cc g)
-    falls (suc (suc (suc (suc zero)))) (suc zero) x g h = omega arith
-    falls (suc (suc (suc (suc zero)))) (suc (suc zero)) x g h = omega arith
-    falls (suc (suc (suc (suc zero)))) (suc (suc (suc zero))) x g h = omega arith
-    falls (suc (suc (suc (suc zero)))) (suc (suc (suc (suc zero)))) x g h = omega arith
-    falls (suc (suc (suc (suc zero)))) (suc (suc (suc (suc (suc zero))))) x g h = absurd (nobody_takes (is_response x.cmd) x.addr h)
-    falls (suc (suc (suc (suc zero)))) (suc (suc (suc (suc (suc (suc p)))))) x g h = absurd (cc g)
-    falls (suc (suc (suc (suc (suc zero))))) p x g h = absurd (cc g)
-    falls (suc (suc (suc (suc (suc (suc zero)))))) p x g h = absurd (cc g)
-    falls (suc (suc (suc (suc (suc (suc (suc zero))))))) p x g h = absurd (cc g)
-    falls (suc (suc (suc (suc (suc (suc (suc (suc k)))))))) p x g h = absurd (cc g)
+    port zero p l = absurd (omega (arith, l))
+    port (suc zero) zero l = record { real = omega arith; apart = λ x h e. omega (arith, e); fit = λ x h. h; falls = λ x g h. absurd (cc g) }
+    port (suc zero) (suc zero) l = record { real = omega arith; apart = λ x h e. omega (arith, e); fit = λ x h. h; falls = λ x g h. absurd (cc g) }
+    port (suc zero) (suc (suc zero)) l = record { real = omega arith; apart = λ x h e. cc h; fit = λ x h. absurd (cc h); falls = λ x g h. absurd (cc g) }
+    port (suc zero) (suc (suc (suc zero))) l = record { real = omega arith; apart = λ x h e. omega (arith, e); fit = λ x h. refl; falls = λ x g h. omega arith }
+    port (suc zero) (suc (suc (suc (suc p)))) l = absurd (omega (arith, l))
+    port (suc (suc zero)) zero l = record { real = omega arith; apart = λ x h e. omega (arith, e); fit = λ x h. refl; falls = λ x g h. absurd (cc g) }
+    port (suc (suc zero)) (suc p) l = absurd (omega (arith, l))
+    port (suc (suc (suc zero))) zero l = record { real = omega arith; apart = λ x h e. omega (arith, e); fit = λ x h. refl; falls = λ x g h. absurd (cc g) }
+    port (suc (suc (suc zero))) (suc p) l = absurd (omega (arith, l))
+    port (suc (suc (suc (suc zero)))) zero l = record { real = omega arith; apart = λ x h e. omega (arith, e); fit = λ x h. refl; falls = λ x g h. absurd (cc g) }
+    port (suc (suc (suc (suc zero)))) (suc zero) l = record { real = omega arith; apart = λ x h e. omega (arith, e); fit = λ x h. out_admitted (is_response x.cmd) (range_of ram_base c.system_ram) x.addr (grind (arith, nat_tests, v.ram_most)) h; falls = λ x g h. omega arith }
+    port (suc (suc (suc (suc zero)))) (suc (suc zero)) l = record { real = omega arith; apart = λ x h e. omega (arith, e); fit = λ x h. out_admitted (is_response x.cmd) (range_of uart_base 0x1000) x.addr refl h; falls = λ x g h. omega arith }
+    port (suc (suc (suc (suc zero)))) (suc (suc (suc zero))) l = record { real = omega arith; apart = λ x h e. omega (arith, e); fit = λ x h. out_admitted (is_response x.cmd) (range_of timer_base 0x10000) x.addr refl h; falls = λ x g h. omega arith }
+    port (suc (suc (suc (suc zero)))) (suc (suc (suc (suc zero)))) l = record { real = omega arith; apart = λ x h e. omega (arith, e); fit = λ x h. out_admitted (is_response x.cmd) (range_of exit_base 0x1000) x.addr refl h; falls = λ x g h. omega arith }
+    port (suc (suc (suc (suc zero)))) (suc (suc (suc (suc (suc zero))))) l = record { real = omega arith; apart = λ x h e. nobody_takes (is_response x.cmd) x.addr h; fit = λ x h. refl; falls = λ x g h. absurd (nobody_takes (is_response x.cmd) x.addr h) }
+    port (suc (suc (suc (suc zero)))) (suc (suc (suc (suc (suc (suc p)))))) l = absurd (omega (arith, l))
+    port (suc (suc (suc (suc (suc zero))))) zero l = record { real = omega arith; apart = λ x h e. omega (arith, e); fit = λ x h. refl; falls = λ x g h. absurd (cc g) }
+    port (suc (suc (suc (suc (suc zero))))) (suc zero) l = record { real = omega arith; apart = λ x h e. omega (arith, e); fit = λ x h. refl; falls = λ x g h. absurd (cc g) }
+    port (suc (suc (suc (suc (suc zero))))) (suc (suc p)) l = absurd (omega (arith, l))
+    port (suc (suc (suc (suc (suc (suc zero)))))) zero l = record { real = omega arith; apart = λ x h e. omega (arith, e); fit = λ x h. refl; falls = λ x g h. absurd (cc g) }
+    port (suc (suc (suc (suc (suc (suc zero)))))) (suc p) l = absurd (omega (arith, l))
+    port (suc (suc (suc (suc (suc (suc (suc zero))))))) zero l = record { real = omega arith; apart = λ x h e. omega (arith, e); fit = λ x h. refl; falls = λ x g h. absurd (cc g) }
+    port (suc (suc (suc (suc (suc (suc (suc zero))))))) (suc p) l = absurd (omega (arith, l))
+    port (suc (suc (suc (suc (suc (suc (suc (suc k)))))))) p l = absurd (omega (arith, l))
 
     wired : IsWired (peer_in (wires_of (platform c))) f
-    wired = record { both = both; real = real; apart = apart; fit = fit; depth = depths; falls = falls }
+    wired = record {
+      both = both;
+      real = λ k p l. (port k p l).real;
+      apart = λ k p x l. (port k p l).apart x;
+      fit = λ k p x l. (port k p l).fit x;
+      depth = depths;
+      falls = λ k p x l. (port k p l).falls x;
+    }
 
     routed : IsRouted (ways_of (platform c)) f depths
     unfolding face_of

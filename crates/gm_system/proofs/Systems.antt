@@ -181,7 +181,7 @@ module _ (ram : ℕ) (s : Sys) (items : List Item) (i : ℕ) (w : Wake) (r : Ste
       apart = λ k p x l g. h.wired.apart k p x (omega (arith, l, ports_same k)) (sym (sends_same k p x) ∙ g);
       fit = λ k p x l g. admits_same (peer_in s.wires k p).part (peer_in s.wires k p).port x ∙ h.wired.fit k p x (omega (arith, l, ports_same k)) (sym (sends_same k p x) ∙ g);
       depth = h.wired.depth;
-      falls = λ k p x g e. h.wired.falls k p x (sym (passes_same k p) ∙ g) (sym (sends_same k p x) ∙ e);
+      falls = λ k p x l g e. h.wired.falls k p x (omega (arith, l, ports_same k)) (sym (passes_same k p) ∙ g) (sym (sends_same k p x) ∙ e);
     };
     net = net_woken (peer_in s.wires) (faces s) (faces (put s i r)) h.wired i w r.answer r.acts law (λ k n. ap face_of (at_other k n)) items d e h.net pays;
     due = due_now;

@@ -74,7 +74,7 @@ pub record IsWired (peer : ℕ → ℕ → End) (f : ℕ → Face) : Type 0 wher
   pub apart : (k p : ℕ) (x : Packet) → p < (f k).ports → (f k).sends p x ≡ true → (peer k p).part ≡ k → ⊥
   pub fit : (k p : ℕ) (x : Packet) → p < (f k).ports → (f k).sends p x ≡ true → (f (peer k p).part).admits (peer k p).port x ≡ true
   pub depth : ℕ → ℕ
-  pub falls : (k p : ℕ) (x : Packet) → (f k).passes p ≡ true → (f k).sends p x ≡ true → depth (peer k p).part < depth k
+  pub falls : (k p : ℕ) (x : Packet) → p < (f k).ports → (f k).passes p ≡ true → (f k).sends p x ≡ true → depth (peer k p).part < depth k
 
 -- a wake of the part i pays one debt and leaves another
 pub record Pays (peer : ℕ → ℕ → End) (f : ℕ → Face) (i : ℕ) (w : Wake) (answer : Answer) (d e : Debt) : Type 0 where
