@@ -1,11 +1,8 @@
 -- A machine between two events whose parts change in nothing that others see, but for which events are due and for memory's bytes.
-use Rattle.std.proofs.Common.{◌≡◌, ℕ, zero, suc, ◌+◌, ◌*◌, ◌<◌, ◌≤◌, Bool, IsTrue, List, [], ◌∷◌, ◌++◌, refl, sym, ◌∙◌, ap, subst, arith, Option, Some, None, ◌⊎◌, inl, inr, length, get_or, sum_by}
-use Rattle.std.proofs.lemmas.Bool.{cases_eq}
-use Rattle.std.proofs.lemmas.List.{append-nil}
+use Rattle.std.proofs.Common.{◌≡◌, ℕ, suc, Bool, IsTrue, List, [], ◌∷◌, ◌++◌, refl, sym, ◌∙◌, ap, subst, arith, Option, Some, None, length, get_or, sum_by}
 use Rattle.std.proofs.lemmas.List.Sums.{sum_by-cons}
 use Rattle.ev_queue.specs.declared.slot.Slot.{Slot}
 use Rattle.ev_queue.specs.PendingList.{IsInServiceOrder, HoldsSlotsOnce, is_pending}
-use Rattle.gm_words.specs.Counts.{IsCountedUpTo}
 use Rattle.gm_words.specs.Platform.{End}
 use Rattle.gm_words.specs.Routes.{Route, is_unmapped}
 use Rattle.gm_words.specs.Slots.{gave_from}
@@ -13,14 +10,14 @@ use Rattle.gm_words.specs.declared.kind.Kind.TheVariants as kinds
 use Rattle.gm_words.specs.declared.packet.Packet.{Packet}
 use Rattle.gm_model.specs.ObjState.{ObjState, Blank, object_of, slots_of}
 use Rattle.gm_model.specs.Sys.{Sys, object_at, peer_in}
-use Rattle.gm_model.specs.View.{Mind, packets_in, part_packets, all_packets, program_state}
+use Rattle.gm_model.specs.View.{packets_in, part_packets, all_packets, program_state}
 use Rattle.gm_laws.specs.Bounds.{IsWithin}
 use Rattle.gm_laws.specs.Face.{Face, FaceOk}
 use Rattle.gm_laws.specs.Faces.{face_of, IsOk}
-use Rattle.gm_laws.specs.Program.{core, owed, bad}
+use Rattle.gm_laws.specs.Program.{core, bad}
 use Rattle.gm_laws.specs.Words.{weigh}
 use Rattle.gm_laws.proofs.EachKind.{face_packets}
-use Rattle.gm_system.specs.Machine.{HasSoundParts, IsSteady, most_of}
+use Rattle.gm_system.specs.Machine.{HasSoundParts, most_of}
 use Rattle.gm_system.specs.Net.{Net, Clear, IsWired}
 use Rattle.gm_system.specs.System.{IsSound, IsRouted, IsWiredAlike, faces}
 use Rattle.gm_system.proofs.Programs.{state_is}

@@ -1,10 +1,8 @@
 -- Any list of picks: the machine stays sound, what is noted is right, and no packet is lost.
-use Rattle.std.proofs.Common.{◌≡◌, ℕ, ◌≤◌, ◌&&◌, nat_le, if◌then◌else◌, Bool, true, false, List, [], ◌∷◌, ◌++◌, refl, sym, ◌∙◌, ap, subst, arith, Some, map}
+use Rattle.std.proofs.Common.{◌≡◌, ℕ, ◌≤◌, ◌&&◌, nat_le, if◌then◌else◌, Bool, true, false, List, [], ◌∷◌, refl, sym, arith, map}
 use Rattle.std.proofs.lemmas.Grind.{common_steps}
 use Rattle.std.proofs.lemmas.Bool.Decides.{nat_tests}
 use Rattle.ev_queue.specs.declared.slot.Slot.{Slot}
-use Rattle.gm_words.specs.Moves.{no_moves, joined}
-use Rattle.gm_words.specs.Replay.{replay}
 use Rattle.gm_words.specs.declared.packet.Packet.{Packet}
 use Rattle.gm_model.specs.Command.{with_input}
 use Rattle.gm_model.specs.Drained.{is_settled}
@@ -17,12 +15,12 @@ use Rattle.gm_model.specs.View.{program_state, all_packets}
 use Rattle.gm_laws.specs.Words.{weigh}
 use Rattle.gm_laws.proofs.Bytes.{no_entry}
 use Rattle.gm_laws.proofs.Weights.{weigh-append}
-use Rattle.gm_system.specs.Machine.{IsSteady, IsMachineSound}
-use Rattle.gm_system.specs.Runs.{Replays, IsRunOf, RunsHold}
-use Rattle.gm_system.specs.System.{IsById, IsWiredAlike}
+use Rattle.gm_system.specs.Machine.{IsMachineSound}
+use Rattle.gm_system.specs.Runs.{IsRunOf, RunsHold}
+use Rattle.gm_system.specs.System.{IsWiredAlike}
 use Rattle.gm_system.proofs.Commands.{drained_steady, resumed_steady, drained_state, resumed_program, input_steady, input_state, drained_packets, resumed_packets, input_packets}
 use Rattle.gm_system.proofs.Deliveries.{alike}
-use Rattle.gm_system.proofs.Runs.{fire_of, nothing_of, event_then, replays_then, nothing_replays, drawn-append, fire_tick, timed_of}
+use Rattle.gm_system.proofs.Runs.{fire_of, replays_then, drawn-append, fire_tick, timed_of}
 
 -- a command notes nothing, and moves no packet
 command_run : (s t : Sys) (table : List Slot) → IsMachineSound t table → IsWiredAlike s t → program_state t [] ≡ program_state s [] → ((f : Packet → ℕ) → weigh f (all_packets t []) ≡ weigh f (all_packets s [])) → t.next ≡ s.next

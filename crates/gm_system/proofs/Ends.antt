@@ -1,9 +1,9 @@
 -- A delivery comes to an end within its fuel.
-use Rattle.std.proofs.Common.{◌≡◌, ℕ, zero, suc, ◌+◌, ◌<◌, ◌≤◌, is_some, Bool, true, false, List, [], ◌∷◌, ◌++◌, refl, sym, subst, arith, Option, Some, None, length}
+use Rattle.std.proofs.Common.{◌≡◌, ℕ, zero, suc, ◌+◌, ◌<◌, ◌≤◌, is_some, true, List, [], ◌∷◌, ◌++◌, refl, sym, subst, arith, Option, Some, None, length}
 use Rattle.gm_model.specs.Deliver.{Item, Sent, Done, Delivery, sent_by, handle, deliver_first, deliver, deliver_line, deliver_passed, done_at, deliver_atomic, passes_max}
 use Rattle.gm_model.specs.Stepped.{Stepped}
 use Rattle.gm_words.specs.Moves.{no_moves}
-use Rattle.gm_model.specs.Sys.{Sys, object_at, peer_in, pass_at, active_cpu}
+use Rattle.gm_model.specs.Sys.{Sys, peer_in, pass_at, active_cpu}
 use Rattle.gm_words.specs.declared.act.Act.{Act}
 use Rattle.gm_words.specs.declared.act.Act.TheVariants as acts
 use Rattle.gm_words.specs.declared.answer.Answer.TheVariants as answers
@@ -19,7 +19,7 @@ use Rattle.gm_system.proofs.Atomics.{atomic_served}
 use Rattle.gm_system.proofs.Deliveries.{first_keeps}
 use Rattle.gm_system.proofs.Fuels.{put_falls, weight-append, offer_falls, call_falls, line_falls, done_falls}
 use Rattle.gm_system.proofs.Items.{active_below, active_there}
-use Rattle.gm_system.proofs.Systems.{put, part_there}
+use Rattle.gm_system.proofs.Systems.{put}
 
 module _ (ram : ℕ) where
   pass_falls : (s : Sys) (rest : List Item) (es : List Entry) (i port : ℕ) (x : Packet) (k total : ℕ) → IsSound ram s (Sent i (acts.Atomic (record { 0 = port }) x) ∷ rest) → k < length s.objects → IsDone s.routes ram (faces s k) x (pass_at s k x)

@@ -1,21 +1,17 @@
 -- What the machine's code needs of the theorems: the one module of this crate that proofs above it cite. No kind is named here.
-use Rattle.std.proofs.Common.{◌≡◌, ℕ, zero, suc, ◌+◌, ◌-◌, ◌*◌, ◌^◌, ◌<◌, ◌≤◌, IsTrue, true, false, is_some, IfSome, List, [], ◌∷◌, ◌++◌, refl, sym, ◌∙◌, ap, subst, arith, Option, Some, None, ◌⊎◌, inl, inr, length, get_or, sum_by, slice_get, option_map}
+use Rattle.std.proofs.Common.{◌≡◌, ℕ, zero, suc, ◌+◌, ◌-◌, ◌*◌, ◌<◌, ◌≤◌, IsTrue, IfSome, List, [], ◌∷◌, ◌++◌, refl, sym, ◌∙◌, ap, subst, arith, Option, Some, None, ◌⊎◌, inl, inr, length, sum_by, slice_get, option_map}
 use Rattle.std.proofs.lemmas.Bool.{cases_eq}
 use Rattle.std.proofs.lemmas.List.Sums.{sum_by-cons}
 use Rattle.gc_base.specs.declared.ids.PortNo.{PortNo}
-use Rattle.rv_step.specs.declared.arch.Arch.{Arch}
 use Rattle.ev_queue.specs.declared.due.Due.{Due}
 use Rattle.ev_queue.specs.declared.slot.Slot.{Slot}
 use Rattle.gm_words.specs.Allowed.{MayPass, MayCome}
-use Rattle.gm_words.specs.Counts.{Counts}
 use Rattle.gm_words.specs.Entries.{console_of}
 use Rattle.gm_words.specs.HartLine.{is_line}
 use Rattle.gm_words.specs.Platform.{End, platform}
 use Rattle.gm_words.specs.Slots.{gave_from, given_table}
 use Rattle.gm_words.specs.declared.act.Act.TheVariants as acts
-use Rattle.gm_words.specs.declared.answer.Answer.{Answer}
 use Rattle.gm_words.specs.declared.entry.Entry.{Entry}
-use Rattle.gm_words.specs.declared.kind.Kind.TheVariants as kinds
 use Rattle.gm_words.specs.declared.packet.Packet.{Packet}
 use Rattle.gm_words.specs.declared.wake.Wake.TheVariants as wakes
 use Rattle.gm_words.specs.declared.way.Way.TheVariants as ways
@@ -26,28 +22,26 @@ use Rattle.gm_laws.specs.Face.{Face}
 use Rattle.cfg_tree.specs.Valid.{IsValidConfig}
 use Rattle.cfg_tree.specs.declared.config.Config.{Config}
 use Rattle.gm_model.specs.Deliver.{Item, Sent, Done, Delivery, deliver_wake, deliver_passed, deliver_first, deliver_atomic, deliver, done_at, pass_way, passes_max, told_wake, way_latency}
-use Rattle.gm_model.specs.Fire.{taken_out, event_begun, fire, fire_first, timed_run}
-use Rattle.gm_model.specs.ObjState.{ObjState, Blank, object_of, slots_of}
+use Rattle.gm_model.specs.Fire.{taken_out, event_begun, fire, timed_run}
+use Rattle.gm_model.specs.ObjState.{ObjState, object_of, slots_of}
 use Rattle.gm_model.specs.Sys.{Sys, object_at, peer_in, step_at, pass_at, active_cpu}
-use Rattle.gm_model.specs.View.{Mind, mind_of, own_ram, parts_mind, program_state}
+use Rattle.gm_model.specs.View.{Mind, mind_of, own_ram}
 use Rattle.gm_laws.proofs.Commands.{commands_hold}
 use Rattle.gm_laws.proofs.EachKind.{passes_hold, face_mind, hart_shown}
 use Rattle.gm_laws.proofs.Modest.{rules_are_modest}
-use Rattle.gm_laws.specs.Faces.{face_of}
 use Rattle.gm_laws.specs.Laws.{GoesOn}
 use Rattle.gm_system.specs.Machine.{HasSoundParts, AreItemsFit, IsSteady, IsMachineSound, IsDeliverySound, most_of}
 use Rattle.gm_system.specs.Runs.{Replays, IsRunReplayed}
 use Rattle.gm_system.specs.System.{IsSound, IsWiredAlike, faces}
 use Rattle.gm_system.specs.Ways.{HasWay, GoesFrom}
 use Rattle.gm_system.proofs.Atomics.{stays_same, way_there}
-use Rattle.gm_system.proofs.Bounded.{IsBounded, handle_bounded, wake_bounded, told_may, sender_there, offered_there, called_there, console-append}
+use Rattle.gm_system.proofs.Bounded.{wake_bounded, told_may, sender_there, offered_there, called_there, console-append}
 use Rattle.gm_system.proofs.Commands.{own_is, put_size as sized, put_steady, resumed_steady}
 use Rattle.gm_system.proofs.EventEnds.{here}
 use Rattle.gm_system.proofs.Items.{active_below}
 use Rattle.gm_system.proofs.Machines.{begun_sound, first_sound, all_delivered, parts-taken_out, fire_sound, fire_bytes}
 use Rattle.gm_system.proofs.Deliveries.{alike}
 use Rattle.gm_system.proofs.Runs.{deliver_tick, fire_tick, timed_of, nothing_replays, replays_then}
-use Rattle.gm_system.proofs.Systems.{part_there}
 use Rattle.gm_system.proofs.Started.{start_sound, restart_sound}
 
 -- Parts.

@@ -9,7 +9,6 @@ use Rattle.gm_model.specs.View.{Mind}
 use Rattle.gm_words.specs.declared.act.Act.TheVariants as acts
 use Rattle.gm_words.specs.declared.entry.Entry.{Entry}
 use Rattle.gm_words.specs.declared.wake.Wake.TheVariants as wakes
-use Rattle.rv_step.specs.declared.arch.Arch.{Arch}
 use Rattle.gm_words.specs.declared.kind.Kind.TheVariants as kinds
 use Rattle.gm_laws.specs.Faces.{face_of}
 use Rattle.gm_system.specs.System.{IsSound, Handled}

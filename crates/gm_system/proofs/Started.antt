@@ -1,7 +1,7 @@
 -- A machine is sound at its start in both modes, whatever bytes are in RAM and wherever the hart begins. This module alone knows the
 -- parts that the platform's table has: what holds of each part at its start, and that the tables of wires, ways and ranges meet what is
 -- asked of them, by computation over the table.
-use Rattle.std.proofs.Common.{◌≡◌, ℕ, zero, suc, ◌+◌, ◌-◌, ◌*◌, ◌^◌, ◌<◌, ◌≤◌, ◌==◌, ◌&&◌, ◌||◌, nat_le, nat_lt, cond, if◌then◌else◌, Bool, true, false, not, IsTrue, All, List, [], ◌∷◌, ◌++◌, refl, sym, ◌∙◌, ap, subst, arith, Option, Some, None, is_none, length, map, replicate, get_or, sum_by, ◌⊎◌, inl, inr}
+use Rattle.std.proofs.Common.{◌≡◌, ℕ, zero, suc, ◌+◌, ◌-◌, ◌*◌, ◌^◌, ◌<◌, ◌≤◌, ◌==◌, ◌&&◌, ◌||◌, nat_le, nat_lt, cond, if◌then◌else◌, Bool, true, false, not, IsTrue, All, List, [], ◌∷◌, ◌++◌, refl, sym, ◌∙◌, ap, subst, arith, Option, Some, None, is_none, length, replicate, get_or, sum_by, ◌⊎◌, inl, inr}
 use Rattle.std.proofs.Math.ListN.{get_or-map}
 use Rattle.std.proofs.lemmas.List.{length-replicate}
 use Rattle.std.proofs.lemmas.List.Sums.{sum_by-cons}
@@ -17,10 +17,10 @@ use Rattle.rv_step.specs.FlatMem.{ram_base}
 use Rattle.rv_step.specs.Flat.{uart_base, exit_base}
 use Rattle.gm_words.specs.Allowed.{MayPass}
 use Rattle.gm_words.specs.Counts.{AreUpTo, no_counts}
-use Rattle.gm_words.specs.Flow.{Quiet, Lane, empty_lane, quiet_flow}
+use Rattle.gm_words.specs.Flow.{Lane, empty_lane, quiet_flow}
 use Rattle.gm_words.specs.Packet.{is_response}
-use Rattle.gm_words.specs.Platform.{Part, End, Range, platform, part_classes, port_at, is_within, is_in_ram, range_of, serve_slot, timer_base, out_to, out_to_nobody, corebus_ports, membus_ports, wires_of, ways_of}
-use Rattle.gm_words.specs.PortUses.{takes, is_source, is_destination, is_total, last_address, used, fore, use_at, port_from, port_of_slot, is_side_slot, sides, source_from, source_port, or_first}
+use Rattle.gm_words.specs.Platform.{Part, End, Range, platform, port_at, is_within, is_in_ram, range_of, serve_slot, timer_base, out_to, out_to_nobody, wires_of, ways_of}
+use Rattle.gm_words.specs.PortUses.{takes, is_source, is_total, last_address, used, fore, use_at, port_from, port_of_slot, is_side_slot, sides, source_from, or_first}
 use Rattle.gm_words.specs.Routes.{Route, destination, is_unmapped, route_to, routes_of}
 use Rattle.gm_words.specs.Slots.{gave_from, given_table}
 use Rattle.gm_words.specs.declared.kind.Kind.TheVariants as kinds
@@ -31,18 +31,18 @@ use Rattle.gm_model.specs.Flows.{has_room, is_due_out}
 use Rattle.gm_model.specs.Memory.{with_bytes_at}
 use Rattle.gm_model.specs.ObjState.{ObjState, Blank, AtomicCpu, TimingCpu, Xbar, Server, Common, Rest, Between, AtomicCpuState, TimingCpuState, XbarState, ServerState, Device, Memory, Uart, Exit, Timer, slots_of, object_of}
 use Rattle.gm_model.specs.Start.{start_state}
-use Rattle.gm_model.specs.Sys.{Sys, object_at, peer_in}
+use Rattle.gm_model.specs.Sys.{Sys, peer_in}
 use Rattle.gm_model.specs.Timer.{timer_start}
 use Rattle.gm_model.specs.View.{Boundary, part_packets, packets_in, lane_packets}
 use Rattle.gm_model.specs.Xbar.{lane_at}
 use Rattle.gm_laws.specs.Bounds.{IsWithin, IsDeviceWithin}
 use Rattle.gm_laws.specs.Face.{Face}
-use Rattle.gm_laws.specs.Faces.{face_of, IsOk, XbarOk, bare_face, device_due, device_range, goes_out, is_hungry, xbar_sends, AllMeet, layer_due, server_due, stood}
+use Rattle.gm_laws.specs.Faces.{face_of, IsOk, device_due, device_range, layer_due, server_due, stood}
 use Rattle.gm_laws.proofs.Counts.{only_zero}
 use Rattle.gm_laws.proofs.EachKind.{blank_ok}
 use Rattle.gm_system.specs.Machine.{IsSteady, IsMachineSound, most_of}
 use Rattle.gm_system.specs.Net.{IsWired}
-use Rattle.gm_system.specs.System.{IsRouted, faces}
+use Rattle.gm_system.specs.System.{IsRouted}
 use Rattle.gm_system.proofs.Commands.{put_size}
 use Rattle.gm_system.proofs.Starts.{IsStill, IsIdle, still_sound}
 
@@ -50,29 +50,25 @@ use Rattle.gm_system.proofs.Starts.{IsStill, IsIdle, still_sound}
 abbrev nobody : ObjState
 nobody = Blank kinds.AtomicCpu
 
--- what holds of all parts holds of each, and of what isn't there
-abbrev AllParts : (ObjState → Type 0) → List ObjState → Type 0
-AllParts P [] = Unit {0}
-AllParts P (o ∷ os) = P o × AllParts P os
-
-each : (P : ObjState → Type 0) → P nobody → (os : List ObjState) → AllParts P os → (k : ℕ) → P (get_or os k nobody)
-each P b [] h k = b
-each P b (o ∷ os) h zero = h.0
-each P b (o ∷ os) h (suc k) = each P b os h.1 k
-
 -- one part alone has what is looked for
 abbrev AllNone : {A : Type 0} → (ObjState → Option A) → List ObjState → Type 0
-AllNone f os = AllParts (λ o. f o ≡ None) os
+AllNone f [] = Unit {0}
+AllNone f (o ∷ os) = (f o ≡ None) × AllNone f os
 
 abbrev OnlyAt : {A : Type 0} → (ObjState → Option A) → ℕ → List ObjState → Type 0
 OnlyAt f n [] = Unit {0}
 OnlyAt f zero (o ∷ os) = AllNone f os
 OnlyAt f (suc n) (o ∷ os) = (f o ≡ None) × OnlyAt f n os
 
+none_at : {A : Type 0} (f : ObjState → Option A) → f nobody ≡ None → (os : List ObjState) → AllNone f os → (k : ℕ) → f (get_or os k nobody) ≡ None
+none_at f b [] h k = b
+none_at f b (o ∷ os) h zero = h.0
+none_at f b (o ∷ os) h (suc k) = none_at f b os h.1 k
+
 others_none : {A : Type 0} (f : ObjState → Option A) → f nobody ≡ None → (n : ℕ) (os : List ObjState) → OnlyAt f n os → (k : ℕ) → (k ≡ n → ⊥) → f (get_or os k nobody) ≡ None
 others_none f b n [] h k e = b
 others_none f b zero (o ∷ os) h zero e = absurd (e refl)
-others_none f b zero (o ∷ os) h (suc k) e = each (λ q. f q ≡ None) b os h k
+others_none f b zero (o ∷ os) h (suc k) e = none_at f b os h k
 others_none f b (suc n) (o ∷ os) h zero e = h.0
 others_none f b (suc n) (o ∷ os) h (suc k) e = others_none f b n os h.1 k (λ s. e (ap suc s))
 
@@ -96,6 +92,7 @@ given_at table n [] h m k e l = absurd (omega (arith, l))
 given_at table n (o ∷ os) h m zero e l = let s : n ≡ m = omega (arith, e) in subst (λ j. IsTrue (gave_from table j 0 (slots_of o))) s h.0
 given_at table n (o ∷ os) h m (suc k) e l = given_at table (n + 1) os h.1 m k (omega (arith, e)) (omega (arith, l))
 
+-- empty layers hold nothing, and nothing was counted
 none_held : (n : ℕ) → All MayPass (lane_packets (replicate n empty_lane))
 none_held zero k x l = absurd (omega (arith, l))
 none_held (suc n) k x l = none_held n k x l
@@ -183,6 +180,7 @@ idle_face f asked waits listed stands hungry portless = record {
   hungry = hungry;
 }
 
+-- layers at their start
 empty_at : (n p : ℕ) → lane_at (replicate n empty_lane) p ≡ empty_lane
 empty_at zero p = refl
 empty_at (suc n) zero = refl
@@ -192,6 +190,7 @@ nobody_waits : (p n : ℕ) → sum_by (λ (l : Lane). stood p l.waiting) (replic
 nobody_waits p zero = refl
 nobody_waits p (suc n) = omega (arith, sum_by-cons (λ (l : Lane). stood p l.waiting) empty_lane (replicate n empty_lane), nobody_waits p n)
 
+-- the states of the parts at their start, in the timing mode or in the atomic one
 abbrev common_at : Config → Bool → ℕ → Common
 common_at c b n = record { object = n; line = c.system_line; ram = c.system_ram; timing = b; draining = true }
 
@@ -258,6 +257,8 @@ begun_at c os = record {
   ways = ways_of (platform c);
   routes = routes_of 0 (platform c);
 }
+
+-- each part begins well
 
 and_false : (b : Bool) → (b && false) ≡ false
 and_false true = refl

@@ -4,8 +4,7 @@ use Rattle.std.proofs.lemmas.Bool.{cases_eq, cases_lt}
 use Rattle.std.proofs.lemmas.List.{get_or-set_same, get_or-set_other, get_or_past}
 use Rattle.ev_queue.specs.PendingList.{is_pending}
 use Rattle.gm_model.specs.Deliver.{Item, Sent, Done, sent_by}
-use Rattle.gm_model.specs.ObjState.{ObjState, Blank}
-use Rattle.gm_model.specs.ObjectStep.{object_step}
+use Rattle.gm_model.specs.ObjState.{Blank}
 use Rattle.gm_words.specs.Routes.{Route}
 use Rattle.gm_model.specs.Stepped.{Stepped}
 use Rattle.gm_words.specs.Changes.{changed, due_after}

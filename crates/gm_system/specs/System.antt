@@ -4,7 +4,7 @@ use Rattle.std.specs.Prelude.{◌≡◌, ℕ, ◌+◌, ◌<◌, ◌≤◌, ◌==
 use Rattle.ev_queue.specs.PendingList.{is_pending}
 use Rattle.gm_model.specs.Deliver.{Item, Sent, Done, Delivery, passes_max}
 use Rattle.gm_words.specs.Moves.{Moves}
-use Rattle.gm_words.specs.Routes.{Route, is_unmapped}
+use Rattle.gm_words.specs.Routes.{is_unmapped}
 use Rattle.gm_words.specs.Platform.{is_in_ram, End}
 use Rattle.gm_words.specs.Replay.{replay}
 use Rattle.gm_model.specs.Sys.{Sys, object_at, peer_in}
