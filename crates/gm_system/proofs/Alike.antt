@@ -1,27 +1,25 @@
 -- A machine between two events whose parts change in nothing that others see, but for which events are due and for memory's bytes.
-use Rattle.std.proofs.Common.{◌≡◌, ℕ, zero, suc, ◌+◌, ◌*◌, ◌<◌, ◌≤◌, Bool, IsTrue, List, [], ◌∷◌, ◌++◌, refl, sym, ◌∙◌, ap, subst, arith, Option, Some, None, ◌⊎◌, inl, inr, length, get_or, sum_by}
-use Rattle.std.proofs.lemmas.Bool.{cases_eq}
-use Rattle.std.proofs.lemmas.List.{append-nil}
+use Rattle.std.proofs.Common.{◌≡◌, ℕ, suc, Bool, IsTrue, List, [], ◌∷◌, ◌++◌, refl, sym, ◌∙◌, ap, subst, arith, Option, Some, None, length, get_or, sum_by}
 use Rattle.std.proofs.lemmas.List.Sums.{sum_by-cons}
 use Rattle.ev_queue.specs.declared.slot.Slot.{Slot}
 use Rattle.ev_queue.specs.PendingList.{IsInServiceOrder, HoldsSlotsOnce, is_pending}
-use Rattle.gm_words.specs.Counts.{IsCountedUpTo}
-use Rattle.gm_words.specs.Routes.{Route, destination, is_unmapped}
+use Rattle.gm_words.specs.Platform.{End}
+use Rattle.gm_words.specs.Routes.{Route, is_unmapped}
 use Rattle.gm_words.specs.Slots.{gave_from}
 use Rattle.gm_words.specs.declared.kind.Kind.TheVariants as kinds
 use Rattle.gm_words.specs.declared.packet.Packet.{Packet}
 use Rattle.gm_model.specs.ObjState.{ObjState, Blank, object_of, slots_of}
 use Rattle.gm_model.specs.Sys.{Sys, object_at, peer_in}
-use Rattle.gm_model.specs.View.{Mind, packets_in, part_packets, all_packets, program_state}
+use Rattle.gm_model.specs.View.{packets_in, part_packets, all_packets, program_state}
 use Rattle.gm_laws.specs.Bounds.{IsWithin}
 use Rattle.gm_laws.specs.Face.{Face, FaceOk}
 use Rattle.gm_laws.specs.Faces.{face_of, IsOk}
-use Rattle.gm_laws.specs.Program.{core, owed, bad}
+use Rattle.gm_laws.specs.Program.{core, bad}
 use Rattle.gm_laws.specs.Words.{weigh}
 use Rattle.gm_laws.proofs.EachKind.{face_packets}
-use Rattle.gm_system.specs.Machine.{HasSoundParts, IsSteady, most_of}
+use Rattle.gm_system.specs.Machine.{HasSoundParts, most_of}
 use Rattle.gm_system.specs.Net.{Net, Clear, IsWired}
-use Rattle.gm_system.specs.System.{IsSound, IsWiredAlike, faces}
+use Rattle.gm_system.specs.System.{IsSound, IsRouted, IsWiredAlike, faces}
 use Rattle.gm_system.proofs.Programs.{state_is}
 use Rattle.gm_system.proofs.Thoughts.{state_with}
 
@@ -81,6 +79,9 @@ module _ (ram : ℕ) (s t : Sys) (h : IsSound ram s []) (a : IsAlike ram s t) (m
   listed_at : (k p : ℕ) → (faces t k).listed p ≡ (faces s k).listed p
   listed_at k p = ap (λ (f : Face). f.listed p) (face k)
 
+  sends_at : (k p : ℕ) (x : Packet) → (faces t k).sends p x ≡ (faces s k).sends p x
+  sends_at k p x = ap (λ (f : Face). f.sends p x) (face k)
+
   net : Net (peer_in s.wires) (faces t) [] Clear
   net = record {
     faces = λ k. subst FaceOk (sym (face k)) (face_ok (faces s k) (faces t k).due (faces t k).memory (h.net.net.faces k));
@@ -104,9 +105,24 @@ module _ (ram : ℕ) (s t : Sys) (h : IsSound ram s []) (a : IsAlike ram s t) (m
   wired = record {
     both = h.net.wired.both;
     real = λ k p l. omega (arith, ports_at (peer_in s.wires k p).part, h.net.wired.real k p (omega (arith, l, ports_at k)));
-    apart = λ k p l. h.net.wired.apart k p (omega (arith, l, ports_at k));
-    fit = λ k p x l e. ap (λ (f : Face). f.admits (peer_in s.wires k p).port x) (face (peer_in s.wires k p).part) ∙ h.net.wired.fit k p x (omega (arith, l, ports_at k)) (sym (ap (λ (f : Face). f.sends p x) (face k)) ∙ e);
+    apart = λ k p x l e. h.net.wired.apart k p x (omega (arith, l, ports_at k)) (sym (sends_at k p x) ∙ e);
+    fit = λ k p x l e. ap (λ (f : Face). f.admits (peer_in s.wires k p).port x) (face (peer_in s.wires k p).part) ∙ h.net.wired.fit k p x (omega (arith, l, ports_at k)) (sym (sends_at k p x) ∙ e);
+    depth = h.net.wired.depth;
+    falls = λ k p x l g e. h.net.wired.falls k p x (omega (arith, l, ports_at k)) (sym (ap (λ (f : Face). f.passes p) (face k)) ∙ g) (sym (sends_at k p x) ∙ e);
   }
+
+  routed : IsRouted s.ways (faces t) h.net.wired.depth
+  routed k p x g l =
+      let e : End = peer_in s.ways k p in
+      let m = h.net.routed k p x (sym (ap (λ (f : Face). f.instant) (face k)) ∙ g) l in
+      record { deep = m.deep; there = omega (arith, m.there, ports_at e.part); fits = ap (λ (f : Face). f.admits e.port x) (face e.part) ∙ m.fits }
+
+  -- the tables of the one are the other's
+  tables : (w : IsWired (peer_in t.wires) (faces t)) × IsRouted t.ways (faces t) w.depth
+  unfolding wired
+  tables =
+      subst (λ ways. (w : IsWired (peer_in t.wires) (faces t)) × IsRouted ways (faces t) w.depth) (sym a.wiring.ways)
+      (subst (λ wires. (w : IsWired (peer_in wires) (faces t)) × IsRouted s.ways (faces t) w.depth) (sym a.wiring.wires) (wired, routed))
 
   all : all_packets t [] ≡ all_packets s []
   all = ap (λ xs. xs ++ []) packets
@@ -115,13 +131,12 @@ module _ (ram : ℕ) (s t : Sys) (h : IsSound ram s []) (a : IsAlike ram s t) (m
   pub alike_sound : IsSound ram t []
   alike_sound = record {
     net = record {
-      parts = λ k. subst (λ r. IsOk r.routes ram (object_at t k)) (sym a.wiring.router) ((a.parts k).ok (h.net.parts k));
-      wired = subst (λ w. IsWired (peer_in w) (faces t)) (sym a.wiring.wires) wired;
+      parts = λ k. subst (λ rs. IsOk rs ram (object_at t k)) (sym a.wiring.routes) ((a.parts k).ok (h.net.parts k));
+      wired = tables.0;
       net = subst (λ w. Net (peer_in w) (faces t) [] Clear) (sym a.wiring.wires) net;
       due = a.due;
       sent = tt;
-      routed = λ x k e. (let m = h.net.routed x k (sym (ap (λ r. destination r.routes x.addr) a.wiring.router) ∙ e) in
-          record { there = omega (arith, m.there, a.count); fits = ap (λ (f : Face). f.admits 0 x) (face k) ∙ m.fits });
+      routed = tables.1;
       placed = tt;
     };
     program = record {
@@ -136,10 +151,10 @@ module _ (ram : ℕ) (s t : Sys) (h : IsSound ram s []) (a : IsAlike ram s t) (m
       one_store = others;
       size = size;
       owes = ap (weigh core) all ∙ h.program.owes;
-      fits = subst (λ r. weigh (bad r.routes ram h.program.mind) (all_packets t []) ≡ 0) (sym a.wiring.router) (ap (weigh (bad s.routes ram h.program.mind)) all ∙ h.program.fits);
+      fits = subst (λ rs. weigh (bad rs ram h.program.mind) (all_packets t []) ≡ 0) (sym a.wiring.routes) (ap (weigh (bad s.routes ram h.program.mind)) all ∙ h.program.fits);
       at_once = λ i. ap (weigh core) packets ∙ h.program.at_once (sym (ap (λ (f : Face). f.instant) (face h.program.cpu)) ∙ i);
       in_time = λ i. refl;
-      mapped = λ x n l e. ap (λ r. is_unmapped r.routes x) a.wiring.router ∙ h.program.mapped x n l e;
+      mapped = λ x n l e. ap (λ rs. is_unmapped rs x) a.wiring.routes ∙ h.program.mapped x n l e;
       senders = refl;
     };
   }
@@ -147,7 +162,7 @@ module _ (ram : ℕ) (s t : Sys) (h : IsSound ram s []) (a : IsAlike ram s t) (m
   -- to the program nothing changed but memory
   pub alike_state : program_state t [] ≡ state_with s.routes h.program.mind (all_packets s []) memory
   unfolding alike_sound
-  alike_state = state_is ram t [] alike_sound.program ∙ (ap (λ r. state_with r.routes h.program.mind (all_packets t []) memory) a.wiring.router ∙ ap (λ xs. state_with s.routes h.program.mind xs memory) all)
+  alike_state = state_is ram t [] alike_sound.program ∙ (ap (λ rs. state_with rs h.program.mind (all_packets t []) memory) a.wiring.routes ∙ ap (λ xs. state_with s.routes h.program.mind xs memory) all)
 
   pub alike_packets : (f : Packet → ℕ) → weigh f (all_packets t []) ≡ weigh f (all_packets s [])
   alike_packets f = ap (weigh f) all
@@ -159,7 +174,6 @@ alike_parts ram s t table a h = record {
   slots = λ k l. subst (λ (xs : List ℕ). IsTrue (gave_from table k 0 xs)) (sym (a.parts k).slots) (h.slots k (omega (arith, l, a.count)));
   within = λ k. (a.parts k).within (h.within k);
   room = omega (arith, h.room, same_most s.objects t.objects (Blank kinds.AtomicCpu) a.count (λ k. ap (λ (f : Face). f.ports) (a.parts k).face));
-  way = omega (arith, h.way, ap (λ r. r.latency) a.wiring.router);
   order = a.order;
   once = a.once;
 }

@@ -3,7 +3,7 @@ use Rattle.std.specs.Prelude.{slice_get}
 use Rattle.std.proofs.Common.{◌≡◌, ℕ, ◌≤◌, arith, List, length, Option, Some, None, refl}
 use Rattle.ev_queue.specs.declared.due.Due.{Due}
 use Rattle.ev_queue.specs.declared.slot.Slot.{Slot}
-use Rattle.gm_model.specs.Fire.{taken_out, fire_event, fire}
+use Rattle.gm_model.specs.Fire.{fire_event, fire}
 use Rattle.gm_model.specs.Sys.{Sys}
 use Rattle.gm_system.specs.Laws.{StartsSound, StaysSound}
 use Rattle.gm_system.specs.Machine.{IsSteady}

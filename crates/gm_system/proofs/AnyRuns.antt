@@ -1,10 +1,8 @@
 -- Any list of picks: the machine stays sound, what is noted is right, and no packet is lost.
-use Rattle.std.proofs.Common.{◌≡◌, ℕ, ◌≤◌, ◌&&◌, nat_le, if◌then◌else◌, Bool, true, false, List, [], ◌∷◌, ◌++◌, refl, sym, ◌∙◌, ap, subst, arith, Some, map}
+use Rattle.std.proofs.Common.{◌≡◌, ℕ, ◌≤◌, ◌&&◌, nat_le, if◌then◌else◌, Bool, true, false, List, [], ◌∷◌, refl, sym, arith, map}
 use Rattle.std.proofs.lemmas.Grind.{common_steps}
 use Rattle.std.proofs.lemmas.Bool.Decides.{nat_tests}
 use Rattle.ev_queue.specs.declared.slot.Slot.{Slot}
-use Rattle.gm_words.specs.Moves.{no_moves, joined}
-use Rattle.gm_words.specs.Replay.{replay}
 use Rattle.gm_words.specs.declared.packet.Packet.{Packet}
 use Rattle.gm_model.specs.Command.{with_input}
 use Rattle.gm_model.specs.Drained.{is_settled}
@@ -17,12 +15,12 @@ use Rattle.gm_model.specs.View.{program_state, all_packets}
 use Rattle.gm_laws.specs.Words.{weigh}
 use Rattle.gm_laws.proofs.Bytes.{no_entry}
 use Rattle.gm_laws.proofs.Weights.{weigh-append}
-use Rattle.gm_system.specs.Machine.{IsSteady, IsMachineSound}
-use Rattle.gm_system.specs.Runs.{Replays, IsRunOf, RunsHold}
-use Rattle.gm_system.specs.System.{IsById, IsWiredAlike}
+use Rattle.gm_system.specs.Machine.{IsMachineSound}
+use Rattle.gm_system.specs.Runs.{IsRunOf, RunsHold}
+use Rattle.gm_system.specs.System.{IsWiredAlike}
 use Rattle.gm_system.proofs.Commands.{drained_steady, resumed_steady, drained_state, resumed_program, input_steady, input_state, drained_packets, resumed_packets, input_packets}
 use Rattle.gm_system.proofs.Deliveries.{alike}
-use Rattle.gm_system.proofs.Runs.{fire_of, nothing_of, event_then, replays_then, nothing_replays, drawn-append, fire_tick, timed_of}
+use Rattle.gm_system.proofs.Runs.{fire_of, replays_then, drawn-append, fire_tick, timed_of}
 
 -- a command notes nothing, and moves no packet
 command_run : (s t : Sys) (table : List Slot) → IsMachineSound t table → IsWiredAlike s t → program_state t [] ≡ program_state s [] → ((f : Packet → ℕ) → weigh f (all_packets t []) ≡ weigh f (all_packets s [])) → t.next ≡ s.next
@@ -51,15 +49,15 @@ pick_run s table (Fire n t) h = by (nat_le s.tick t && nat_le t 4611703610613432
         conserved = f.conserved;
         drawn = f.drawn;
       }
-  by false e = command_run s s table h (record { wires = refl; router = refl }) refl (λ f. refl) refl
+  by false e = command_run s s table h (record { wires = refl; ways = refl; routes = refl }) refl (λ f. refl) refl
 pick_run s table Drain h =
-    command_run s (drain_begun s) table (record { steady = drained_steady s table h.steady; tick = h.tick }) (record { wires = refl; router = refl }) (drained_state s table h.steady) (drained_packets s table h.steady) refl
+    command_run s (drain_begun s) table (record { steady = drained_steady s table h.steady; tick = h.tick }) (record { wires = refl; ways = refl; routes = refl }) (drained_state s table h.steady) (drained_packets s table h.steady) refl
 pick_run s table Resume h = by (s.draining && is_settled s) where
   by : (b : Bool) → IsRunOf s (if b then commanded_to (resumed_state s) else unpicked s) table
-  by true = command_run s (resumed_state s) table (record { steady = resumed_steady s table h.steady; tick = h.tick }) (record { wires = refl; router = refl }) (resumed_program s table h.steady) (resumed_packets s table h.steady) refl
-  by false = command_run s s table h (record { wires = refl; router = refl }) refl (λ f. refl) refl
+  by true = command_run s (resumed_state s) table (record { steady = resumed_steady s table h.steady; tick = h.tick }) (record { wires = refl; ways = refl; routes = refl }) (resumed_program s table h.steady) (resumed_packets s table h.steady) refl
+  by false = command_run s s table h (record { wires = refl; ways = refl; routes = refl }) refl (λ f. refl) refl
 pick_run s table (Input b) h =
-    command_run s (record s { objects = map (with_input b) s.objects }) table (record { steady = input_steady s table b h.steady; tick = h.tick }) (record { wires = refl; router = refl }) (input_state s table b h.steady) (input_packets s table b h.steady) refl
+    command_run s (record s { objects = map (with_input b) s.objects }) table (record { steady = input_steady s table b h.steady; tick = h.tick }) (record { wires = refl; ways = refl; routes = refl }) (input_state s table b h.steady) (input_packets s table b h.steady) refl
 
 run_then : (s : Sys) (a b : Picked) (table : List Slot) → IsRunOf s a table → IsRunOf a.sys b table → IsRunOf s (then_picked a b) table
 run_then s a b table h k = record {
@@ -72,7 +70,7 @@ run_then s a b table h k = record {
 
 pub any_run_holds : (s : Sys) (table : List Slot) (ps : List Pick) → IsMachineSound s table → IsRunOf s (any_run s ps) table
 unfolding any_run
-any_run_holds s table [] h = command_run s s table h (record { wires = refl; router = refl }) refl (λ f. refl) refl
+any_run_holds s table [] h = command_run s s table h (record { wires = refl; ways = refl; routes = refl }) refl (λ f. refl) refl
 any_run_holds s table (p ∷ ps) h =
     let one = pick_run s table p h in
     run_then s (picked s p) (any_run (picked s p).sys ps) table one (any_run_holds (picked s p).sys table ps one.sound)

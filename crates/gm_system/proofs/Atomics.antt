@@ -1,16 +1,17 @@
 -- A packet that is passed at once: on its way, and when it is served.
-use Rattle.std.proofs.Common.{◌≡◌, ℕ, ◌+◌, ◌<◌, ◌==◌, if◌then◌else◌, Bool, true, false, List, [], ◌∷◌, ◌++◌, refl, sym, ◌∙◌, ap, subst, arith, Option, Some, None, replicate, ◌⊎◌, inl, inr, length, length-set, set}
+use Rattle.std.proofs.Common.{◌≡◌, ℕ, zero, suc, ◌+◌, ◌*◌, ◌<◌, ◌≤◌, ◌==◌, if◌then◌else◌, Bool, true, false, List, [], ◌∷◌, ◌++◌, refl, sym, ◌∙◌, ap, subst, arith, Some, None, ◌⊎◌, inl, inr, length, length-set, set}
 use Rattle.std.proofs.lemmas.Bool.{cases_eq}
-use Rattle.std.proofs.lemmas.List.{append-nil, get_or_past}
-use Rattle.gm_model.specs.Deliver.{Item, Sent, Done, sent_by, deliver_passed, done_at, deliver_atomic, way_latency}
+use Rattle.std.proofs.lemmas.List.{append-nil, set-get_or}
+use Rattle.gm_model.specs.Deliver.{Item, Sent, Done, Delivery, sent_by, deliver_passed, done_at, deliver_atomic, pass_way, way_latency, passes_max}
 use Rattle.gm_model.specs.ObjState.{ObjState, Blank}
-use Rattle.gm_words.specs.Packet.{is_response, is_write_back, fault_response}
+use Rattle.gc_base.specs.declared.limits.TheConstants.{LATENCY_MAX}
+use Rattle.gm_words.specs.Packet.{is_response, is_write_back}
 use Rattle.gm_model.specs.Stepped.{Stepped}
 use Rattle.gm_words.specs.Moves.{no_moves, Moves}
 use Rattle.gm_words.specs.Changes.{Change}
 use Rattle.gm_model.specs.Sys.{Sys, object_at, peer_in, pass_at, passed, with_object}
 use Rattle.gm_words.specs.Platform.{End}
-use Rattle.gm_model.specs.View.{all_packets, part_packets, item_packets, is_of_hart}
+use Rattle.gm_model.specs.View.{all_packets, part_packets, item_packets}
 use Rattle.gm_words.specs.declared.act.Act.TheVariants as acts
 use Rattle.gm_words.specs.declared.answer.Answer.TheVariants as answers
 use Rattle.gm_words.specs.declared.entry.Entry.{Entry}
@@ -20,22 +21,23 @@ use Rattle.gm_words.specs.declared.wake.Wake.TheVariants as wakes
 use Rattle.gm_words.specs.declared.act.Act.{Act}
 use Rattle.gm_words.specs.declared.cmd.Cmd.{Cmd}
 use Rattle.gm_words.specs.declared.cmd.Cmd.TheVariants as cmds
-use Rattle.gm_words.specs.Routes.{Route, destination, is_unmapped}
-use Rattle.gm_model.specs.EventMoves.{atomic_moves}
-use Rattle.std.specs.Prelude.{is_none}
-use Rattle.gm_laws.proofs.EachKind.{blank_face}
+use Rattle.gm_words.specs.Routes.{Route}
+use Rattle.gm_words.specs.declared.way.Way.{Way}
+use Rattle.gm_words.specs.declared.way.Way.TheVariants as ways
+use Rattle.gm_model.specs.EventMoves.{atomic_moves, pass_moves}
 use Rattle.gm_laws.specs.Words.{weigh, IsIn, offer_out}
 use Rattle.gm_laws.specs.Face.{Face, passed_packets}
 use Rattle.gm_laws.specs.Faces.{face_of, AllItemsOk, AllPassOk}
 use Rattle.gm_system.specs.Net.{Clear, Net}
-use Rattle.gm_laws.specs.Program.{core, bit, bad, seen, MayThink, IsService, nobody_read, nobody_written, Serves, serves, none}
+use Rattle.gm_laws.specs.Program.{core, bad, seen, MayThink}
 use Rattle.gm_system.specs.System.{IsNet, IsProgram, IsSound, faces, others_packets, Handled}
+use Rattle.gm_system.specs.Ways.{HasWay, GoesFrom}
 use Rattle.gm_laws.proofs.Counts.{only_zero, offered-append, called-append, IsIn-append}
 use Rattle.gm_system.proofs.Debts.{pays_none}
 use Rattle.gm_system.proofs.Handles.{pop_none}
 use Rattle.gm_system.proofs.Offers.{before_wake}
 use Rattle.gm_system.proofs.Packets.{parts-set, part_le, items-weigh, sent-weigh, others-append, others-sent}
-use Rattle.gm_laws.specs.Laws.{IsDone, PassesHold}
+use Rattle.gm_laws.specs.Laws.{GoesOn, IsDone, WayKeeps, PassesHold}
 use Rattle.gm_system.proofs.Programs.{Shift, IsElse, Step, program_step}
 use Rattle.gm_system.proofs.Systems.{placed-append, instant_there, IsBefore, put, at_same, at_other, net_kept, part_there}
 use Rattle.gm_system.proofs.Wakes.{responses_core, seen_by}
@@ -220,145 +222,131 @@ module _ (ram : ℕ) (s : Sys) (rest : List Item) (i port : ℕ) (x : Packet) (k
   pub pass_done : (es : List Entry) → Handled ram (record { sys = s; items = Sent i (acts.Atomic (record { 0 = port }) x) ∷ rest; entries = es }) (done_at (deliver_passed (record { sys = s; items = rest; entries = es }) k x) i (pass_at s k x).packet total) (record no_moves { served = record { request = x; response = (pass_at s k x).packet } ∷ [] })
   pass_done es = record {
     sound = record { net = net; program = step.program };
-    wiring = record { wires = refl; router = refl };
+    wiring = record { wires = refl; ways = refl; routes = refl };
     replayed = record { noted = (pass_at s k x).entries; entries = refl; replays = step.replays };
     conserved = record { same = λ f e. omega (arith, all_now f, all_later f, e (pass_at s k x).packet x d.id) };
   }
 
+-- a part that only passes it on is as it was
+pub same_sys : (s : Sys) (k port : ℕ) (x : Packet) → GoesOn (faces s k) (object_at s k) x (pass_at s k x) port → passed s k x ≡ s
+same_sys s k port x g =
+    ap (λ (o : ObjState). with_object s k o (pass_at s k x).changes) g.state
+    ∙ (ap (λ (c : List Change). with_object s k (object_at s k) c) g.changes ∙ ap (λ (os : List ObjState). let u : Sys = record s { objects = os } in u) (set-get_or s.objects k (Blank kinds.AtomicCpu)))
+
+pub stays_same : (d : Delivery) (k port : ℕ) (x : Packet) → GoesOn (faces d.sys k) (object_at d.sys k) x (pass_at d.sys k x) port → deliver_passed d k x ≡ d
+stays_same d k port x g =
+    let items : d.items ++ sent_by k (pass_at d.sys k x).acts ≡ d.items = ap (λ a. d.items ++ sent_by k a) g.acts ∙ append-nil d.items in
+    let noted : d.entries ++ (pass_at d.sys k x).entries ≡ d.entries = ap (λ e. d.entries ++ e) g.entries ∙ append-nil d.entries in
+    ap (λ (u : Sys). let v : Delivery = record { sys = u; items = d.items ++ sent_by k (pass_at d.sys k x).acts; entries = d.entries ++ (pass_at d.sys k x).entries } in v) (same_sys d.sys k port x g)
+    ∙ (ap (λ (u : List Item). let v : Delivery = record { sys = d.sys; items = u; entries = d.entries ++ (pass_at d.sys k x).entries } in v) items
+    ∙ ap (λ (u : List Entry). let v : Delivery = record { sys = d.sys; items = d.items; entries = u } in v) noted)
+
+-- a part on the way of a packet, from which it has at most so many parts to go
+pub record IsOnWay (f : ℕ → Face) (depth : ℕ → ℕ) (k n : ℕ) (x : Packet) : Type 0 where
+  pub port : ℕ
+  pub deep : depth k < n
+  pub there : port < (f k).ports
+  pub fits : (f k).admits port x ≡ true
+
+-- a way has an end: there the packet is served, and only that part changes
+pub record IsServedBy (rs : List Route) (ram : ℕ) (s : Sys) (rest : List Item) (es : List Entry) (i : ℕ) (x : Packet) (before n : ℕ) (e : Delivery) (m : Moves) : Type 0 where
+  pub place : ℕ
+  pub took : ℕ
+  pub there : place < length s.objects
+  pub done : IsDone rs ram (faces s place) x (pass_at s place x)
+  pub short : ((j : ℕ) → way_latency (pass_at s j x).way ≤ LATENCY_MAX) → took ≤ before + n * LATENCY_MAX
+  pub ends : e ≡ done_at (deliver_passed (record { sys = s; items = rest; entries = es }) place x) i (pass_at s place x).packet took
+  pub moves : m ≡ record no_moves { served = record { request = x; response = (pass_at s place x).packet } ∷ [] }
+
 module _ (passes : PassesHold) (ram : ℕ) (s : Sys) (rest : List Item) (i port : ℕ) (x : Packet) (h : IsSound ram s (Sent i (acts.Atomic (record { 0 = port }) x) ∷ rest)) where
   -- a packet that the hart waits for is no write-back
-  pub plain : is_write_back x.cmd ≡ false
+  plain : is_write_back x.cmd ≡ false
   plain = by (is_write_back x.cmd) refl where
     by : (b : Bool) → is_write_back x.cmd ≡ b → is_write_back x.cmd ≡ false
     by false e = e
     by true e = absurd (no_write_back s.routes ram h.program.mind x
         (omega (arith, h.program.fits, weigh-append (bad s.routes ram h.program.mind) (part_packets s.objects) (x ∷ item_packets rest))) (written_back x.cmd e))
 
-  -- what the part owes that serves it
-  pub served : (k : ℕ) → destination s.routes x.addr ≡ Some k → IsDone s.routes ram (faces s k) x (pass_at s k x)
-  served k e = passes s.routes ram (object_at s k) x s.tick (h.net.parts k) (h.net.routed x k e).fits h.net.sent.0 plain
+  -- what each part on the way owes
+  pub hop_keeps : (k n : ℕ) → IsOnWay (faces s) h.net.wired.depth k n x → WayKeeps s.routes ram (faces s k) (object_at s k) x (pass_at s k x) (pass_at s k x).way
+  hop_keeps k n w = passes s.routes ram (object_at s k) x s.tick w.port (h.net.parts k) w.there w.fits h.net.sent.0 plain
 
--- a request of no range is refused
-record IsRefusal (rs : List Route) (x r : Packet) : Type 0 where
-  response : is_response r.cmd ≡ true
-  id : r.id ≡ x.id
-  src : r.src ≡ x.src
-  service : (m : List ℕ) → IsService rs x r m [] m
+  -- the first part, and the next after one that passes it on
+  pub first_hop : IsOnWay (faces s) h.net.wired.depth (peer_in s.ways i port).part passes_max x
+  first_hop =
+      let hop = h.net.routed i port x h.net.placed.0.0 h.net.placed.0.1 in
+      record { port = (peer_in s.ways i port).port; deep = hop.deep; there = hop.there; fits = hop.fits }
 
-refusal : (rs : List Route) (x : Packet) (c : Cmd) → x.cmd ≡ c → is_response c ≡ false → is_write_back c ≡ false → is_unmapped rs x.addr ≡ true → IsRefusal rs x (fault_response x c)
-refusal rs x cmds.Read e q w u = record { response = refl; id = refl; src = refl; service = λ m. nobody_read m (replicate x.size 0) e refl u }
-refusal rs x cmds.Write e q w u = record { response = refl; id = refl; src = refl; service = λ m. nobody_written m e refl u }
-refusal rs x cmds.WriteBack e q w u = absurd (cc w)
-refusal rs x cmds.ReadResp e q w u = absurd (cc q)
-refusal rs x cmds.WriteResp e q w u = absurd (cc q)
-
-module _ (ram : ℕ) (s : Sys) (rest : List Item) (i port : ℕ) (x : Packet) (h : IsSound ram s (Sent i (acts.Atomic (record { 0 = port }) x) ∷ rest)) (nobody : destination s.routes x.addr ≡ None)
-    (plain_x : is_write_back x.cmd ≡ false) where
-  -- a part that isn't there stands for nobody
-  nothing : object_at s (length s.objects) ≡ Blank kinds.AtomicCpu
-  nothing = get_or_past s.objects (length s.objects) (Blank kinds.AtomicCpu) (omega arith)
-
-  no_memory : (faces s (length s.objects)).memory ≡ None
-  no_memory = ap (λ o. (face_of o).memory) nothing ∙ ap (λ (f : Face). f.memory) blank_face
-
-  no_hart : (faces s (length s.objects)).mind ≡ None
-  no_hart = ap (λ o. (face_of o).mind) nothing ∙ ap (λ (f : Face). f.mind) blank_face
-
-  no_packet : (f : Packet → ℕ) → weigh f (faces s (length s.objects)).packets ≡ 0
-  no_packet f = ap (weigh f) (ap (λ o. (face_of o).packets) nothing ∙ ap (λ (g : Face). g.packets) blank_face)
-
-  facts : IsRefusal s.routes x (fault_response x x.cmd)
-  facts = refusal s.routes x x.cmd refl h.net.sent.0 plain_x (ap (λ o. is_none o) nobody)
-
-  same_hart : core (fault_response x x.cmd) ≡ core x
-  same_hart = ap (λ k. bit (is_of_hart k)) facts.src
-
-  refused_net : IsNet ram s (rest ++ Done i (fault_response x x.cmd) s.router.latency ∷ []) Clear
-  refused_net = record {
-    parts = h.net.parts;
-    wired = h.net.wired;
-    net = push_done (peer_in s.wires) (faces s) rest i s.router.latency (fault_response x x.cmd)
-        (pop_none (peer_in s.wires) (faces s) (Sent i (acts.Atomic (record { 0 = port }) x)) rest (λ j q. (omega (arith, only_zero i j), omega (arith, only_zero i j))) h.net.net);
-    due = h.net.due;
-    sent = ok-done rest i s.router.latency (fault_response x x.cmd) h.net.sent.1 facts.response;
-    routed = h.net.routed;
-    placed = placed-append (faces s) (length s.objects) rest (Done i (fault_response x x.cmd) s.router.latency ∷ []) h.net.placed.1 (instant_there s i h.net.placed.0.0, tt);
+  pub next_hop : (k n p : ℕ) → h.net.wired.depth k < suc n → GoesOn (faces s k) (object_at s k) x (pass_at s k x) p → IsOnWay (faces s) h.net.wired.depth (peer_in s.wires k p).part n x
+  next_hop k n p deep g = record {
+    port = (peer_in s.wires k p).port;
+    deep = omega (arith, deep, h.net.wired.falls k p x g.there g.passes g.sends);
+    there = h.net.wired.real k p g.there;
+    fits = h.net.wired.fit k p x g.there g.sends;
   }
 
-  all_before : (f : Packet → ℕ) → weigh f (all_packets s (Sent i (acts.Atomic (record { 0 = port }) x) ∷ rest)) ≡ weigh f (part_packets s.objects) + (f x + weigh f (item_packets rest))
-  all_before f = weigh-append f (part_packets s.objects) (x ∷ item_packets rest)
+  -- so a packet has a way from each part on it, and from the first
+  way_from : (n k : ℕ) → IsOnWay (faces s) h.net.wired.depth k n x → HasWay n s k x
+  unfolding HasWay
+  way_from zero k w = omega (arith, w.deep)
+  way_from (suc n) k w = (part_there s k w.port w.there, by (pass_at s k x).way (hop_keeps k (suc n) w) (λ j m. way_from n j m)) where
+    by : (v : Way) → WayKeeps s.routes ram (faces s k) (object_at s k) x (pass_at s k x) v → ((j : ℕ) → IsOnWay (faces s) h.net.wired.depth j n x → HasWay n s j x)
+        → GoesFrom (λ j. HasWay n s j x) s k x v
+    by (ways.Done l) done more = tt
+    by (ways.Pass p l) g more = (g, more (peer_in s.wires k p.0).part (next_hop k n p.0 w.deep g))
 
-  items_after : (f : Packet → ℕ) → weigh f (item_packets (rest ++ Done i (fault_response x x.cmd) s.router.latency ∷ [])) ≡ weigh f (item_packets rest) + f (fault_response x x.cmd)
-  items_after f = omega (arith, items-weigh f rest (Done i (fault_response x x.cmd) s.router.latency ∷ []))
+  pub way_there : HasWay passes_max s (peer_in s.ways i port).part x
+  way_there = way_from passes_max (peer_in s.ways i port).part first_hop
 
-  all_after : (f : Packet → ℕ) → weigh f (all_packets s (rest ++ Done i (fault_response x x.cmd) s.router.latency ∷ [])) ≡ weigh f (part_packets s.objects) + weigh f (item_packets rest) + f (fault_response x x.cmd)
-  all_after f = omega (arith, weigh-append f (part_packets s.objects) (item_packets (rest ++ Done i (fault_response x x.cmd) s.router.latency ∷ [])), items_after f)
+  module _ (es : List Entry) where
+    -- from part to part, as far as the fuel goes
+    way_served : (n k before : ℕ) → IsOnWay (faces s) h.net.wired.depth k n x
+        → IsServedBy s.routes ram s rest es i x before n (deliver_atomic n (record { sys = s; items = rest; entries = es }) i k x before) (atomic_moves n s k x)
+    unfolding deliver_atomic atomic_moves
+    way_served zero k before w = absurd (omega (arith, w.deep))
+    way_served (suc n) k before w =
+        by (pass_at s k x).way refl (hop_keeps k (suc n) w) (λ j t more. way_served n j t more) where
+          by : (v : Way) → (pass_at s k x).way ≡ v → WayKeeps s.routes ram (faces s k) (object_at s k) x (pass_at s k x) v
+              → ((j t : ℕ) → IsOnWay (faces s) h.net.wired.depth j n x
+              → IsServedBy s.routes ram s rest es i x t n (deliver_atomic n (record { sys = s; items = rest; entries = es }) i j x t) (atomic_moves n s j x))
+              → (let d : Delivery = record { sys = s; items = rest; entries = es } in
+              IsServedBy s.routes ram s rest es i x before (suc n)
+              (pass_way (λ p t. deliver_atomic n (deliver_passed d k x) i (peer_in s.wires k p).part (pass_at s k x).packet t) (deliver_passed d k x) i (pass_at s k x).packet before v)
+              (pass_moves (λ p. atomic_moves n (passed s k x) (peer_in s.wires k p).part (pass_at s k x).packet) x (pass_at s k x).packet v))
+          by (ways.Done l) e done more = record {
+            place = k;
+            took = before + l;
+            there = part_there s k w.port w.there;
+            done = done;
+            short = λ soon. omega (arith, soon k, ap way_latency e);
+            ends = refl;
+            moves = refl;
+          }
+          by (ways.Pass p l) e g more =
+              let d : Delivery = record { sys = s; items = rest; entries = es } in
+              let r = more (peer_in s.wires k p.0).part (before + l) (next_hop k n p.0 w.deep g) in
+              record {
+                place = r.place;
+                took = r.took;
+                there = r.there;
+                done = r.done;
+                short = λ soon. omega (arith, soon k, ap way_latency e, r.short soon);
+                ends = ap (λ (u : Delivery). deliver_atomic n u i (peer_in s.wires k p.0).part (pass_at s k x).packet (before + l)) (stays_same d k p.0 x g)
+                    ∙ (ap (λ (z : Packet). deliver_atomic n d i (peer_in s.wires k p.0).part z (before + l)) g.packet ∙ r.ends);
+                moves = ap (λ (u : Sys). atomic_moves n u (peer_in s.wires k p.0).part (pass_at s k x).packet) (same_sys s k p.0 x g)
+                    ∙ (ap (λ (z : Packet). atomic_moves n s (peer_in s.wires k p.0).part z) g.packet ∙ r.moves);
+              }
 
-  refused_shift : Shift (all_packets s (Sent i (acts.Atomic (record { 0 = port }) x) ∷ rest)) (all_packets s (rest ++ Done i (fault_response x x.cmd) s.router.latency ∷ [])) (atomic_moves s x None)
-  refused_shift = record {
-    stay = part_packets s.objects ++ item_packets rest;
-    before = λ f e. omega (arith, all_before f, weigh-append f (part_packets s.objects) (item_packets rest));
-    after = λ f e. omega (arith, all_after f, weigh-append f (part_packets s.objects) (item_packets rest));
-  }
+    pub atomic_served : (let d : Delivery = record { sys = s; items = rest; entries = es } in let k = (peer_in s.ways i port).part in
+        IsServedBy s.routes ram s rest es i x 0 passes_max (deliver_atomic passes_max d i k x 0) (atomic_moves passes_max s k x))
+    atomic_served = way_served passes_max (peer_in s.ways i port).part 0 first_hop
 
-  refused_may : MayThink s.routes ram h.program.mind (faces s (length s.objects)) (wakes.Refused (record { 0 = 0 }))
-  refused_may = record {
-    held = no_packet (bad s.routes ram h.program.mind);
-    shows = refl;
-    owned = λ e. omega (arith, no_packet core);
-    foreign = λ e u. refl;
-    done = λ e z l o. cc;
-    timed = λ e u z l o. cc;
-    response = λ z l o. cc;
-    lines = λ b l o. cc;
-  }
-
-  refused_senders : weigh core (others_packets h.program.cpu (rest ++ Done i (fault_response x x.cmd) s.router.latency ∷ [])) ≡ 0
-  refused_senders = by (i == h.program.cpu) h.program.senders (others-append core h.program.cpu rest (Done i (fault_response x x.cmd) s.router.latency ∷ [])) where
-    by : (b : Bool) → weigh core ((if b then [] else x ∷ []) ++ others_packets h.program.cpu rest) ≡ 0
-        → weigh core (others_packets h.program.cpu (rest ++ Done i (fault_response x x.cmd) s.router.latency ∷ []))
-        ≡ weigh core (others_packets h.program.cpu rest) + weigh core ((if b then [] else (fault_response x x.cmd) ∷ []) ++ [])
-        → weigh core (others_packets h.program.cpu (rest ++ Done i (fault_response x x.cmd) s.router.latency ∷ [])) ≡ 0
-    by true a e = omega (arith, a, e)
-    by false a e = omega (arith, a, e, same_hart)
-
-  refused_step : Step ram s s (Sent i (acts.Atomic (record { 0 = port }) x) ∷ rest) (rest ++ Done i (fault_response x x.cmd) s.router.latency ∷ []) []
-  refused_step =
-      program_step ram s s (Sent i (acts.Atomic (record { 0 = port }) x) ∷ rest) (rest ++ Done i (fault_response x x.cmd) s.router.latency ∷ []) (length s.objects) (wakes.Refused (record { 0 = 0 }))
-      (faces s (length s.objects)) [] [] (atomic_moves s x None) h.program
-      (record { routes = refl; mind = refl; memory = refl; minds = λ j n. refl; memories = λ j n. refl; cpus = λ j. refl; instants = λ j. refl }) refused_shift refused_may
-      (λ e. record {
-        mind = no_hart;
-        made = refl;
-        fits = λ n. refl;
-        answered = refl;
-        passed = refl;
-        serves = λ m l k. subst (λ (b : List ℕ). Serves s.routes m (record { request = x; response = fault_response x x.cmd } ∷ []) [] b) (sym k)
-            (serves m m m (record { request = x; response = fault_response x x.cmd }) [] [] [] (facts.service m) (none m));
-        stays = λ k. k;
-        remains = λ k. k;
-      })
-      (λ e. absurd (no_mind (sym no_hart ∙ e)))
-      h.program.at_once (λ u. omega (arith, items_after core, h.program.in_time u, same_hart)) refused_senders where
-        no_mind : None ≡ Some h.program.mind → ⊥
-        no_mind e = cc
-
-  pub refused_handled : (es : List Entry) → Handled ram (record { sys = s; items = Sent i (acts.Atomic (record { 0 = port }) x) ∷ rest; entries = es })
-      (done_at (record { sys = s; items = rest; entries = es }) i (fault_response x x.cmd) s.router.latency) (atomic_moves s x None)
-  refused_handled es = record {
-    sound = record { net = refused_net; program = refused_step.program };
-    wiring = record { wires = refl; router = refl };
-    replayed = record { noted = []; entries = sym (append-nil es); replays = refused_step.replays };
-    conserved = record { same = λ f e. omega (arith, all_before f, all_after f, e (fault_response x x.cmd) x facts.id) };
-  }
-
-module _ (passes : PassesHold) (ram : ℕ) where
-  -- a packet that is passed at once
-  pub atomic_handled : (s : Sys) (rest : List Item) (es : List Entry) (i port : ℕ) (x : Packet) → IsSound ram s (Sent i (acts.Atomic (record { 0 = port }) x) ∷ rest)
-      → Handled ram (record { sys = s; items = Sent i (acts.Atomic (record { 0 = port }) x) ∷ rest; entries = es })
-      (deliver_atomic (record { sys = s; items = rest; entries = es }) i x (destination s.routes x.addr)) (atomic_moves s x (destination s.routes x.addr))
-  atomic_handled s rest es i port x h = by (destination s.routes x.addr) refl where
-    by : (o : Option ℕ) → destination s.routes x.addr ≡ o
-        → Handled ram (record { sys = s; items = Sent i (acts.Atomic (record { 0 = port }) x) ∷ rest; entries = es }) (deliver_atomic (record { sys = s; items = rest; entries = es }) i x o) (atomic_moves s x o)
-    by None e = refused_handled ram s rest i port x h e (plain passes ram s rest i port x h) es
-    by (Some k) e = pass_done ram s rest i port x k (s.router.latency + way_latency (pass_at s k x).way) h (h.net.routed x k e).there (served passes ram s rest i port x h k e) es
+    -- a packet that is passed at once
+    pub atomic_handled : (let d : Delivery = record { sys = s; items = rest; entries = es } in let k = (peer_in s.ways i port).part in
+        Handled ram (record { sys = s; items = Sent i (acts.Atomic (record { 0 = port }) x) ∷ rest; entries = es }) (deliver_atomic passes_max d i k x 0) (atomic_moves passes_max s k x))
+    atomic_handled =
+        let v = atomic_served in
+        subst (λ (e : Delivery). Handled ram (record { sys = s; items = Sent i (acts.Atomic (record { 0 = port }) x) ∷ rest; entries = es }) e (atomic_moves passes_max s (peer_in s.ways i port).part x)) (sym v.ends)
+        (subst (λ (m : Moves). Handled ram (record { sys = s; items = Sent i (acts.Atomic (record { 0 = port }) x) ∷ rest; entries = es })
+        (done_at (deliver_passed (record { sys = s; items = rest; entries = es }) v.place x) i (pass_at s v.place x).packet v.took) m) (sym v.moves)
+        (pass_done ram s rest i port x v.place v.took h v.there v.done es))

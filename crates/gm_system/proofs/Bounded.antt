@@ -1,8 +1,9 @@
 -- What is left to do bounds what an event may still note and draw, and the parts keep their numbers, handles and limits.
-use Rattle.std.proofs.Common.{◌≡◌, ℕ, ◌+◌, ◌<◌, ◌≤◌, cond, Bool, true, false, IsTrue, List, [], ◌∷◌, ◌++◌, refl, sym, ◌∙◌, ap, subst, arith, Option, Some, None, ◌⊎◌, inl, inr, length, length-set, sum_by}
+use Rattle.std.proofs.Common.{◌≡◌, ℕ, ◌+◌, ◌*◌, ◌<◌, ◌≤◌, cond, Bool, true, false, IsTrue, List, [], ◌∷◌, ◌++◌, refl, sym, ◌∙◌, ap, subst, arith, Option, Some, None, ◌⊎◌, inl, inr, length, length-set, sum_by}
 use Rattle.std.proofs.lemmas.Bool.{cases_eq}
 use Rattle.std.proofs.lemmas.List.{append_assoc, get_or-set_same, get_or-set_other, length-append}
 use Rattle.std.proofs.lemmas.List.Sums.{sum_by-set}
+use Rattle.gc_base.specs.declared.limits.TheConstants.{LATENCY_MAX}
 use Rattle.ev_queue.specs.declared.due.Due.{Due}
 use Rattle.ev_queue.specs.declared.slot.Slot.{Slot}
 use Rattle.ev_queue.specs.PendingList.{IsInServiceOrder, HoldsSlotsOnce, is_of, is_before, scheduled, without, rescheduled, event}
@@ -13,22 +14,18 @@ use Rattle.gm_words.specs.Changes.{Change, Schedule, Remove, changed, changed_by
 use Rattle.gm_words.specs.Entries.{console_of, console_bytes}
 use Rattle.gm_words.specs.HartLine.{is_line}
 use Rattle.gm_words.specs.Moves.{Moves, no_moves, joined, AreDrawn}
-use Rattle.gm_words.specs.Packet.{fault_response}
 use Rattle.gm_words.specs.Platform.{End}
-use Rattle.gm_words.specs.Routes.{destination}
 use Rattle.gm_words.specs.Slots.{gave_from}
 use Rattle.gm_words.specs.declared.act.Act.{Act}
 use Rattle.gm_words.specs.declared.act.Act.TheVariants as acts
 use Rattle.gm_words.specs.declared.answer.Answer.{Answer}
 use Rattle.gm_words.specs.declared.answer.Answer.TheVariants as answers
-use Rattle.gm_words.specs.declared.cmd.Cmd.{Cmd}
-use Rattle.gm_words.specs.declared.cmd.Cmd.TheVariants as cmds
 use Rattle.gm_words.specs.declared.entry.Entry.{Entry}
 use Rattle.gm_words.specs.declared.kind.Kind.TheVariants as kinds
 use Rattle.gm_words.specs.declared.packet.Packet.{Packet}
 use Rattle.gm_words.specs.declared.wake.Wake.{Wake}
 use Rattle.gm_words.specs.declared.wake.Wake.TheVariants as wakes
-use Rattle.gm_model.specs.Deliver.{Item, Sent, Done, Delivery, sent_by, deliver_wake, deliver_line, deliver_atomic, deliver_passed, done_at, handle, told_wake, way_latency}
+use Rattle.gm_model.specs.Deliver.{Item, Sent, Done, Delivery, sent_by, deliver_wake, deliver_line, deliver_passed, done_at, handle, told_wake, passes_max}
 use Rattle.gm_model.specs.EventMoves.{item_moves, line_moves, atomic_moves}
 use Rattle.gm_model.specs.ObjState.{ObjState, Blank, object_of, slots_of}
 use Rattle.gm_model.specs.Sys.{Sys, object_at, with_object, step_at, woken, pass_at, peer_in, active_cpu}
@@ -36,9 +33,11 @@ use Rattle.gm_laws.specs.Bounds.{IsWithin, AreTimely, latest, AreFit, speech, pa
 use Rattle.gm_laws.specs.Faces.{face_of}
 use Rattle.gm_laws.specs.Words.{only, called_by}
 use Rattle.gm_laws.proofs.Counts.{only_self}
+use Rattle.gm_laws.proofs.EachKind.{passes_hold}
 use Rattle.gm_laws.proofs.Modest.{rules_are_modest}
 use Rattle.gm_system.specs.Machine.{HasSoundParts, AreItemsFit, items_speech, speech_left, most_of, AreBetween}
 use Rattle.gm_system.specs.System.{IsSound}
+use Rattle.gm_system.proofs.Atomics.{atomic_served}
 use Rattle.gm_system.proofs.Items.{active_below}
 use Rattle.gm_system.proofs.Systems.{part_there}
 
@@ -160,7 +159,6 @@ module _ (s : Sys) (table : List Slot) (i next : ℕ) (o : ObjState) (cs : List 
     slots = λ k l. slot k (omega (arith, l, length-set s.objects i o)) (cases_eq k i);
     within = λ k. limits k (cases_eq k i);
     room = omega (arith, h.room, sum_by-set most_of s.objects i o (Blank kinds.AtomicCpu) here, ports);
-    way = h.way;
     order = changed_order i s.pending cs h.order;
     once = changed_once i s.pending cs h.once;
   } where
@@ -189,7 +187,7 @@ wake_bounded d table i w here may h fit =
       entries = omega (arith, m.entries, length-append d.entries r.entries);
       numbers = m.few;
       drawn = m.drawn;
-      spoken = omega (arith, said d.entries r.entries, ap length m.silent, sum_by-set part_speech d.sys.objects i r.state (Blank kinds.AtomicCpu) here, m.spoken, speech-append d.items (sent_by i r.acts), speech-sent i r.acts);
+      spoken = omega (arith, said d.entries r.entries, sum_by-set part_speech d.sys.objects i r.state (Blank kinds.AtomicCpu) here, m.spoken, speech-append d.items (sent_by i r.acts), speech-sent i r.acts);
       counts = refl;
       tick = refl;
       objects = length-set d.sys.objects i r.state;
@@ -226,50 +224,26 @@ weaker d d' e table a b p q u v m n s es l ab pq mn h = record {
   timely = λ low high i k t. h.timely low high (omega (arith, i, ap (λ x. x.tick) s)) (omega (arith, k, ap (λ x. latest x.tick) s)) (subst (AreBetween low high) (ap (λ x. x.pending) s) t);
 }
 
-fault_size : (x : Packet) (c : Cmd) → (fault_response x c).size ≡ x.size
-fault_size x cmds.Read = refl
-fault_size x cmds.Write = refl
-fault_size x cmds.WriteBack = refl
-fault_size x cmds.ReadResp = refl
-fault_size x cmds.WriteResp = refl
-
--- a packet that is passed at once
+-- a packet that is passed at once, to the last part of its way
 module _ (s : Sys) (rest : List Item) (es : List Entry) (table : List Slot) (i : ℕ) (x : Packet) (h : HasSoundParts s table) (fit : AreItemsFit rest) (size : x.size ≤ 64) where
-  abbrev d : Delivery
-  d = record { sys = s; items = rest; entries = es }
-
-  pass_bounded : (k : ℕ) → k < length s.objects
-      → IsBounded (record { sys = s; items = rest; entries = es }) (done_at (deliver_passed (record { sys = s; items = rest; entries = es }) k x) i (pass_at s k x).packet (s.router.latency + way_latency (pass_at s k x).way)) table 2 1 (packet_speech x) (atomic_moves s x (Some k))
-  pass_bounded k here =
+  pass_bounded : (k took : ℕ) → k < length s.objects → took ≤ passes_max * LATENCY_MAX
+      → IsBounded (record { sys = s; items = rest; entries = es }) (done_at (deliver_passed (record { sys = s; items = rest; entries = es }) k x) i (pass_at s k x).packet took) table 2 1 (packet_speech x)
+      (record no_moves { served = record { request = x; response = (pass_at s k x).packet } ∷ [] })
+  pass_bounded k took here short =
       let m = rules_are_modest.pass (object_at s k) x s.tick (h.within k) in
       let v = pass_at s k x in
       record {
         parts = parts_put s table k s.next v.state v.changes here h m.object m.slots m.ports m.within;
-        fit = fit-append (rest ++ sent_by k v.acts) (Done i v.packet (s.router.latency + way_latency v.way) ∷ []) (fit-append rest (sent_by k v.acts) fit (fit-sent k v.acts m.fit))
-            (omega (arith, m.size, size), omega (arith, h.way, m.soon), tt);
+        fit = fit-append (rest ++ sent_by k v.acts) (Done i v.packet took ∷ []) (fit-append rest (sent_by k v.acts) fit (fit-sent k v.acts m.fit)) (omega (arith, m.size, size), omega (arith, short), tt);
         entries = omega (arith, m.entries, length-append es v.entries);
         numbers = omega arith;
         drawn = refl;
-        spoken = omega (arith, said es v.entries, sum_by-set part_speech s.objects k v.state (Blank kinds.AtomicCpu) here, m.spoken, speech-append (rest ++ sent_by k v.acts) (Done i v.packet (s.router.latency + way_latency v.way) ∷ []), speech-append rest (sent_by k v.acts), speech-sent k v.acts);
+        spoken = omega (arith, said es v.entries, sum_by-set part_speech s.objects k v.state (Blank kinds.AtomicCpu) here, m.spoken, speech-append (rest ++ sent_by k v.acts) (Done i v.packet took ∷ []), speech-append rest (sent_by k v.acts), speech-sent k v.acts);
         counts = refl;
         tick = refl;
         objects = length-set s.objects k v.state;
         timely = λ low high l n t. changed_between low high s.tick k s.pending v.changes l n m.timely t;
       }
-
-  refuse_bounded : IsBounded (record { sys = s; items = rest; entries = es }) (done_at (record { sys = s; items = rest; entries = es }) i (fault_response x x.cmd) s.router.latency) table 2 1 (packet_speech x) (atomic_moves s x None)
-  refuse_bounded = record {
-    parts = h;
-    fit = fit-append rest (Done i (fault_response x x.cmd) s.router.latency ∷ []) fit (omega (arith, fault_size x x.cmd, size), omega (arith, h.way), tt);
-    entries = omega arith;
-    numbers = omega arith;
-    drawn = refl;
-    spoken = omega (arith, speech-append rest (Done i (fault_response x x.cmd) s.router.latency ∷ []));
-    counts = refl;
-    tick = refl;
-    objects = refl;
-    timely = λ low high l n t. t;
-  }
 
 pub told_may : (a : Answer) (p : ℕ) → MayCome (told_wake a p)
 told_may answers.Taken p = tt
@@ -330,16 +304,15 @@ module _ (ram : ℕ) (table : List Slot) where
       weaker d (record { sys = s; items = Sent i (acts.CallRetry p) ∷ rest; entries = es }) (deliver_wake d q.part w) table 2 4 1 2 0 0 (step_at s q.part w).moves (step_at s q.part w).moves refl refl (omega arith) (omega arith) (omega arith) refl
       (wake_bounded d table q.part w (called_there ram s rest i p.0 sound) tt h fit.1)
   handle_bounded s rest es (Sent i (acts.SetLine b l)) sound h fit = line_bounded s rest es i b l (active_cpu s.objects) refl sound.net.sent.0 h fit.1
-  handle_bounded s rest es (Sent i (acts.Atomic p x)) sound h fit = by (destination s.routes x.addr) refl where
-    d : Delivery
-    d = record { sys = s; items = rest; entries = es }
-
-    by : (o : Option ℕ) → destination s.routes x.addr ≡ o
-        → IsBounded (record { sys = s; items = Sent i (acts.Atomic p x) ∷ rest; entries = es }) (deliver_atomic (record { sys = s; items = rest; entries = es }) i x o) table 4 2 0 (atomic_moves s x o)
-    by None e = weaker d (record { sys = s; items = Sent i (acts.Atomic p x) ∷ rest; entries = es }) (deliver_atomic d i x None) table 2 4 1 2 (packet_speech x) 0 (atomic_moves s x None) (atomic_moves s x None) refl refl (omega arith) (omega arith) (omega arith) refl
-        (refuse_bounded s rest es table i x h fit.1 fit.0)
-    by (Some k) e = weaker d (record { sys = s; items = Sent i (acts.Atomic p x) ∷ rest; entries = es }) (deliver_atomic d i x (Some k)) table 2 4 1 2 (packet_speech x) 0 (atomic_moves s x (Some k)) (atomic_moves s x (Some k)) refl refl (omega arith) (omega arith) (omega arith) refl
-        (pass_bounded s rest es table i x h fit.1 fit.0 k (sound.net.routed x k e).there)
+  handle_bounded s rest es (Sent i (acts.Atomic p x)) sound h fit =
+      let d : Delivery = record { sys = s; items = rest; entries = es } in
+      let k : ℕ = (peer_in s.ways i p.0).part in
+      let v = atomic_served passes_hold ram s rest i p.0 x sound es in
+      let served : Moves = record no_moves { served = record { request = x; response = (pass_at s v.place x).packet } ∷ [] } in
+      let b = pass_bounded s rest es table i x h fit.1 fit.0 v.place v.took v.there (v.short (λ j. (rules_are_modest.pass (object_at s j) x s.tick (h.within j)).soon)) in
+      subst (λ (e : Delivery). IsBounded (record { sys = s; items = Sent i (acts.Atomic p x) ∷ rest; entries = es }) e table 4 2 0 (atomic_moves passes_max s k x)) (sym v.ends)
+      (weaker d (record { sys = s; items = Sent i (acts.Atomic p x) ∷ rest; entries = es }) (done_at (deliver_passed d v.place x) i (pass_at s v.place x).packet v.took) table 2 4 1 2 (packet_speech x) 0
+      served (atomic_moves passes_max s k x) refl refl (omega arith) (omega arith) (omega arith) (ap (λ (m : Moves). m.made) v.moves) b)
   handle_bounded s rest es (Done i x l) sound h fit =
       let d : Delivery = record { sys = s; items = rest; entries = es } in
       weaker d (record { sys = s; items = Done i x l ∷ rest; entries = es }) (deliver_wake d i (wakes.AtomicDone x l)) table 2 4 1 2 0 0 (step_at s i (wakes.AtomicDone x l)).moves (step_at s i (wakes.AtomicDone x l)).moves refl refl (omega arith) (omega arith) (omega arith) refl

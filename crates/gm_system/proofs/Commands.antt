@@ -105,7 +105,7 @@ module _ (s : Sys) (table : List Slot) (h : IsSteady s table) where
 
     commanded_alike : IsAlike h.ram s (commanded f s)
     commanded_alike = record {
-      wiring = record { wires = refl; router = refl };
+      wiring = record { wires = refl; ways = refl; routes = refl };
       count = length-map s.objects (λ o. (f o).state);
       parts = λ k. subst (IsPartAlike s.routes h.ram (object_at s k)) (sym (at_all k)) (same_alike s.routes h.ram (object_at s k) (f (object_at s k)).state (keeps (object_at s k)).same);
       due = λ k n. due k n (cases_lt k (length s.objects));
@@ -171,7 +171,7 @@ set_draining s table b h = record {
       senders = p.senders;
     });
   };
-  parts = record { numbered = h.parts.numbered; slots = h.parts.slots; within = h.parts.within; room = h.parts.room; way = h.parts.way; order = h.parts.order; once = h.parts.once };
+  parts = record { numbered = h.parts.numbered; slots = h.parts.slots; within = h.parts.within; room = h.parts.room; order = h.parts.order; once = h.parts.once };
   numbers = h.numbers;
   counts = h.counts;
 }
@@ -205,7 +205,7 @@ module _ (s : Sys) (table : List Slot) (b : ℕ) (h : IsSteady s table) where
 
   input_alike : IsAlike h.ram s (record s { objects = map (with_input b) s.objects })
   input_alike = record {
-    wiring = record { wires = refl; router = refl };
+    wiring = record { wires = refl; ways = refl; routes = refl };
     count = length-map s.objects (with_input b);
     parts = λ k. subst (IsPartAlike s.routes h.ram (object_at s k)) (sym (input_at k)) (same_alike s.routes h.ram (object_at s k) (with_input b (object_at s k)) (commands_hold.input (object_at s k) b));
     due = λ k n. ap (λ o. (face_of o).due n) (input_at k) ∙ (commands_hold.input_due (object_at s k) b n ∙ h.sound.net.due k n);
@@ -263,7 +263,7 @@ module _ (s : Sys) (table : List Slot) (address : ℕ) (bytes : List ℕ) (h : I
 
   raw_alike : IsAlike h.ram s (with_raw address bytes s)
   raw_alike = record {
-    wiring = record { wires = refl; router = refl };
+    wiring = record { wires = refl; ways = refl; routes = refl };
     count = length-map s.objects (λ o. with_own_bytes (address - 0x80000000) bytes o);
     parts = λ k. subst (IsPartAlike s.routes h.ram (object_at s k)) (sym (raw_at k)) (record {
       face = alike (faces s k) (option_map (λ m. with_bytes_at m (address - 0x80000000) bytes) (faces s k).memory) (face_of (with_own_bytes (address - 0x80000000) bytes (object_at s k))) (commands_hold.put (object_at s k) (address - 0x80000000) bytes);

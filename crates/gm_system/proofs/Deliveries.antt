@@ -3,7 +3,7 @@ use Rattle.std.proofs.Common.{◌≡◌, ℕ, zero, suc, List, [], ◌∷◌, �
 use Rattle.std.proofs.lemmas.List.{append-nil, append_assoc}
 use Rattle.gm_model.specs.Deliver.{Item, Delivery, handle, deliver_first, deliver}
 use Rattle.gm_words.specs.Replay.{replay}
-use Rattle.gm_words.specs.Routes.{Router}
+use Rattle.gm_words.specs.Routes.{Route}
 use Rattle.gm_words.specs.Moves.{Moves, no_moves, joined}
 use Rattle.gm_model.specs.EventMoves.{first_moves, item_moves, deliver_moves}
 use Rattle.gm_model.specs.Sys.{Sys}
@@ -15,13 +15,13 @@ use Rattle.gm_laws.proofs.Weights.{weigh-append}
 
 -- the machine stays wired as it was
 pub alike : (s t u : Sys) → IsWiredAlike s t → IsWiredAlike t u → IsWiredAlike s u
-alike s t u a b = record { wires = b.wires ∙ a.wires; router = b.router ∙ a.router }
+alike s t u a b = record { wires = b.wires ∙ a.wires; ways = b.ways ∙ a.ways; routes = b.routes ∙ a.routes }
 
 module _ (ram : ℕ) where
   pub handled_none : (d : Delivery) → IsSound ram d.sys d.items → Handled ram d d no_moves
   handled_none d h = record {
     sound = h;
-    wiring = record { wires = refl; router = refl };
+    wiring = record { wires = refl; ways = refl; routes = refl };
     replayed = record { noted = []; entries = sym (append-nil d.entries); replays = no_entry d.sys.routes (program_state d.sys d.items) (program_state d.sys d.items) refl };
     conserved = record { same = λ f e. omega arith };
   }
@@ -34,7 +34,7 @@ module _ (ram : ℕ) where
       noted = a.replayed.noted ++ b.replayed.noted;
       entries = b.replayed.entries ∙ (ap (λ es. es ++ b.replayed.noted) a.replayed.entries ∙ append_assoc d.entries a.replayed.noted b.replayed.noted);
       replays = replay-append d.sys.routes (program_state d.sys d.items) (program_state e.sys e.items) a.replayed.noted b.replayed.noted a.replayed.replays
-          ∙ (ap (λ (r : Router). replay r.routes (program_state e.sys e.items) b.replayed.noted) (sym a.wiring.router) ∙ b.replayed.replays);
+          ∙ (ap (λ (rs : List Route). replay rs (program_state e.sys e.items) b.replayed.noted) (sym a.wiring.routes) ∙ b.replayed.replays);
     };
     conserved = record {
       same = λ h i. omega (arith, a.conserved.same h i, b.conserved.same h i, weigh-append h m.made n.made, weigh-append h m.answered n.answered, weigh-append h m.absorbed n.absorbed);

@@ -1,9 +1,9 @@
 -- A delivery comes to an end within its fuel.
-use Rattle.std.proofs.Common.{◌≡◌, ℕ, zero, suc, ◌+◌, ◌<◌, ◌≤◌, is_some, Bool, true, false, List, [], ◌∷◌, ◌++◌, refl, sym, subst, arith, Option, Some, None, length}
-use Rattle.gm_model.specs.Deliver.{Item, Sent, Done, Delivery, sent_by, handle, deliver_first, deliver, deliver_line, deliver_passed, done_at, deliver_atomic, way_latency}
+use Rattle.std.proofs.Common.{◌≡◌, ℕ, zero, suc, ◌+◌, ◌<◌, ◌≤◌, is_some, true, List, [], ◌∷◌, ◌++◌, refl, sym, subst, arith, Option, Some, None, length}
+use Rattle.gm_model.specs.Deliver.{Item, Sent, Done, Delivery, sent_by, handle, deliver_first, deliver, deliver_line, deliver_passed, done_at, deliver_atomic, passes_max}
 use Rattle.gm_model.specs.Stepped.{Stepped}
 use Rattle.gm_words.specs.Moves.{no_moves}
-use Rattle.gm_model.specs.Sys.{Sys, object_at, peer_in, pass_at, active_cpu}
+use Rattle.gm_model.specs.Sys.{Sys, peer_in, pass_at, active_cpu}
 use Rattle.gm_words.specs.declared.act.Act.{Act}
 use Rattle.gm_words.specs.declared.act.Act.TheVariants as acts
 use Rattle.gm_words.specs.declared.answer.Answer.TheVariants as answers
@@ -15,13 +15,11 @@ use Rattle.gm_laws.specs.Fuel.{weight_one, weight_of}
 use Rattle.gm_system.specs.System.{IsSound, faces, fuel_of}
 use Rattle.gm_laws.specs.Laws.{IsDone}
 use Rattle.gm_laws.proofs.EachKind.{passes_hold}
-use Rattle.gm_words.specs.Packet.{fault_response}
-use Rattle.gm_words.specs.Routes.{destination}
-use Rattle.gm_system.proofs.Atomics.{served}
+use Rattle.gm_system.proofs.Atomics.{atomic_served}
 use Rattle.gm_system.proofs.Deliveries.{first_keeps}
 use Rattle.gm_system.proofs.Fuels.{put_falls, weight-append, offer_falls, call_falls, line_falls, done_falls}
 use Rattle.gm_system.proofs.Items.{active_below, active_there}
-use Rattle.gm_system.proofs.Systems.{put, part_there}
+use Rattle.gm_system.proofs.Systems.{put}
 
 module _ (ram : ℕ) where
   pass_falls : (s : Sys) (rest : List Item) (es : List Entry) (i port : ℕ) (x : Packet) (k total : ℕ) → IsSound ram s (Sent i (acts.Atomic (record { 0 = port }) x) ∷ rest) → k < length s.objects → IsDone s.routes ram (faces s k) x (pass_at s k x)
@@ -40,12 +38,10 @@ module _ (ram : ℕ) where
       omega (arith, m, weight-append (rest ++ sent_by k (pass_at s k x).acts) (Done i (pass_at s k x).packet total ∷ []))
 
   atomic_falls : (s : Sys) (rest : List Item) (es : List Entry) (i port : ℕ) (x : Packet) → IsSound ram s (Sent i (acts.Atomic (record { 0 = port }) x) ∷ rest)
-      → (let d : Delivery = deliver_atomic (record { sys = s; items = rest; entries = es }) i x (destination s.routes x.addr) in fuel_of d.sys d.items < fuel_of s (Sent i (acts.Atomic (record { 0 = port }) x) ∷ rest))
-  atomic_falls s rest es i port x h = by (destination s.routes x.addr) refl where
-    by : (o : Option ℕ) → destination s.routes x.addr ≡ o
-        → (let d : Delivery = deliver_atomic (record { sys = s; items = rest; entries = es }) i x o in fuel_of d.sys d.items < fuel_of s (Sent i (acts.Atomic (record { 0 = port }) x) ∷ rest))
-    by None e = omega (arith, weight-append rest (Done i (fault_response x x.cmd) s.router.latency ∷ []))
-    by (Some k) e = pass_falls s rest es i port x k (s.router.latency + way_latency (pass_at s k x).way) h (h.net.routed x k e).there (served passes_hold ram s rest i port x h k e)
+      → (let d : Delivery = deliver_atomic passes_max (record { sys = s; items = rest; entries = es }) i (peer_in s.ways i port).part x 0 in fuel_of d.sys d.items < fuel_of s (Sent i (acts.Atomic (record { 0 = port }) x) ∷ rest))
+  atomic_falls s rest es i port x h =
+      let v = atomic_served passes_hold ram s rest i port x h es in
+      subst (λ (d : Delivery). fuel_of d.sys d.items < fuel_of s (Sent i (acts.Atomic (record { 0 = port }) x) ∷ rest)) (sym v.ends) (pass_falls s rest es i port x v.place v.took h v.there v.done)
 
   -- each item, of either mode
   pub handle_falls : (s : Sys) (rest : List Item) (es : List Entry) (it : Item) → IsSound ram s (it ∷ rest)
@@ -57,8 +53,7 @@ module _ (ram : ℕ) where
         → (let d : Delivery = deliver_line (record { sys = s; items = rest; entries = es }) (wakes.Line b l) o in fuel_of d.sys d.items < fuel_of s (Sent i (acts.SetLine b l) ∷ rest))
     by None e f = cc
     by (Some k) e f = line_falls ram s rest i b l k (omega (arith, active_below 0 k s.objects e)) h
-  handle_falls s rest es (Sent i (acts.Atomic p x)) h =
-      atomic_falls s rest es i p.0 x h
+  handle_falls s rest es (Sent i (acts.Atomic p x)) h = atomic_falls s rest es i p.0 x h
   handle_falls s rest es (Done i x l) h = done_falls ram s rest i l x h
 
   one_left : (a : Act) → 1 ≤ weight_one a

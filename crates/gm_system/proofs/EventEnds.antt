@@ -1,12 +1,12 @@
 -- An event comes to an end: all that it causes is delivered.
 use Rattle.std.specs.Prelude.{slice_get}
-use Rattle.std.proofs.Common.{◌≡◌, ℕ, zero, suc, ◌+◌, ◌*◌, ◌<◌, ◌≤◌, true, List, [], ◌∷◌, refl, subst, arith, Some, length, get_or, sum_by}
+use Rattle.std.proofs.Common.{◌≡◌, ℕ, zero, suc, ◌+◌, ◌<◌, ◌≤◌, true, List, [], ◌∷◌, refl, subst, arith, Some, length, get_or, sum_by}
 use Rattle.std.proofs.lemmas.List.Sums.{sum_by-set, sum_by-cons}
 use Rattle.gc_base.specs.declared.ids.SlotNo.{SlotNo}
 use Rattle.ev_queue.specs.declared.due.Due.{Due}
 use Rattle.ev_queue.specs.PendingList.{HoldsSlotsOnce}
-use Rattle.gm_model.specs.Deliver.{Delivery, items_max}
-use Rattle.gm_model.specs.Fire.{taken_out, event_begun, event_delivered}
+use Rattle.gm_model.specs.Deliver.{Delivery}
+use Rattle.gm_model.specs.Fire.{taken_out, event_begun}
 use Rattle.gm_model.specs.ObjState.{ObjState, Blank}
 use Rattle.gm_model.specs.Sys.{Sys, step_at, object_at, peer_in}
 use Rattle.gm_words.specs.declared.kind.Kind.TheVariants as kinds
@@ -19,8 +19,7 @@ use Rattle.gm_system.specs.Machine.{most_of}
 use Rattle.gm_system.specs.System.{IsSound, faces, fuel_of, Handled}
 use Rattle.gm_system.proofs.Debts.{pays_none}
 use Rattle.gm_laws.proofs.EachKind.{wakes_hold, toil_le}
-use Rattle.gm_system.proofs.Ends.{deliver_ends}
-use Rattle.gm_system.proofs.Events.{fired, mine, others, event_keeps}
+use Rattle.gm_system.proofs.Events.{fired, mine, others}
 use Rattle.gm_system.proofs.Fuels.{weight-sent}
 use Rattle.gm_system.proofs.Handles.{event_handled}
 use Rattle.gm_system.proofs.Systems.{IsBefore, keeps, due_there}

@@ -1,49 +1,47 @@
 -- What the machine's code needs of the theorems: the one module of this crate that proofs above it cite. No kind is named here.
-use Rattle.std.proofs.Common.{◌≡◌, ℕ, zero, suc, ◌+◌, ◌-◌, ◌*◌, ◌^◌, ◌<◌, ◌≤◌, IsTrue, true, false, is_some, IfSome, List, [], ◌∷◌, ◌++◌, refl, sym, ◌∙◌, ap, subst, arith, Option, Some, None, ◌⊎◌, inl, inr, length, get_or, sum_by, slice_get, option_map}
+use Rattle.std.proofs.Common.{◌≡◌, ℕ, zero, suc, ◌+◌, ◌-◌, ◌*◌, ◌<◌, ◌≤◌, IsTrue, IfSome, List, [], ◌∷◌, ◌++◌, refl, sym, ◌∙◌, ap, subst, arith, Option, Some, None, ◌⊎◌, inl, inr, length, sum_by, slice_get, option_map}
 use Rattle.std.proofs.lemmas.Bool.{cases_eq}
 use Rattle.std.proofs.lemmas.List.Sums.{sum_by-cons}
-use Rattle.rv_step.specs.declared.arch.Arch.{Arch}
+use Rattle.gc_base.specs.declared.ids.PortNo.{PortNo}
 use Rattle.ev_queue.specs.declared.due.Due.{Due}
 use Rattle.ev_queue.specs.declared.slot.Slot.{Slot}
 use Rattle.gm_words.specs.Allowed.{MayPass, MayCome}
-use Rattle.gm_words.specs.Counts.{Counts}
 use Rattle.gm_words.specs.Entries.{console_of}
 use Rattle.gm_words.specs.HartLine.{is_line}
 use Rattle.gm_words.specs.Platform.{End, platform}
-use Rattle.gm_words.specs.Routes.{destination}
 use Rattle.gm_words.specs.Slots.{gave_from, given_table}
 use Rattle.gm_words.specs.declared.act.Act.TheVariants as acts
-use Rattle.gm_words.specs.declared.answer.Answer.{Answer}
 use Rattle.gm_words.specs.declared.entry.Entry.{Entry}
-use Rattle.gm_words.specs.declared.kind.Kind.TheVariants as kinds
 use Rattle.gm_words.specs.declared.packet.Packet.{Packet}
 use Rattle.gm_words.specs.declared.wake.Wake.TheVariants as wakes
+use Rattle.gm_words.specs.declared.way.Way.TheVariants as ways
 use Rattle.gm_model.specs.Command.{arch_of, own_bytes, with_own_bytes}
 use Rattle.gm_model.specs.Memory.{with_bytes_at}
 use Rattle.gm_model.specs.Start.{start_state, with_raw, resumed_state}
 use Rattle.gm_laws.specs.Face.{Face}
 use Rattle.cfg_tree.specs.Valid.{IsValidConfig}
 use Rattle.cfg_tree.specs.declared.config.Config.{Config}
-use Rattle.gm_model.specs.Deliver.{Item, Sent, Done, Delivery, deliver_wake, deliver_first, deliver, told_wake, way_latency}
-use Rattle.gm_model.specs.Fire.{taken_out, event_begun, fire, fire_first, timed_run}
-use Rattle.gm_model.specs.ObjState.{ObjState, Blank, object_of, slots_of}
+use Rattle.gm_model.specs.Deliver.{Item, Sent, Done, Delivery, deliver_wake, deliver_passed, deliver_first, deliver_atomic, deliver, done_at, pass_way, passes_max, told_wake, way_latency}
+use Rattle.gm_model.specs.Fire.{taken_out, event_begun, fire, timed_run}
+use Rattle.gm_model.specs.ObjState.{ObjState, object_of, slots_of}
 use Rattle.gm_model.specs.Sys.{Sys, object_at, peer_in, step_at, pass_at, active_cpu}
-use Rattle.gm_model.specs.View.{Mind, mind_of, own_ram, parts_mind, program_state}
+use Rattle.gm_model.specs.View.{Mind, mind_of, own_ram}
 use Rattle.gm_laws.proofs.Commands.{commands_hold}
-use Rattle.gm_laws.proofs.EachKind.{face_mind, hart_shown}
+use Rattle.gm_laws.proofs.EachKind.{passes_hold, face_mind, hart_shown}
 use Rattle.gm_laws.proofs.Modest.{rules_are_modest}
-use Rattle.gm_laws.specs.Faces.{face_of}
+use Rattle.gm_laws.specs.Laws.{GoesOn}
 use Rattle.gm_system.specs.Machine.{HasSoundParts, AreItemsFit, IsSteady, IsMachineSound, IsDeliverySound, most_of}
 use Rattle.gm_system.specs.Runs.{Replays, IsRunReplayed}
 use Rattle.gm_system.specs.System.{IsSound, IsWiredAlike, faces}
-use Rattle.gm_system.proofs.Bounded.{IsBounded, handle_bounded, wake_bounded, told_may, sender_there, offered_there, called_there, console-append}
+use Rattle.gm_system.specs.Ways.{HasWay, GoesFrom}
+use Rattle.gm_system.proofs.Atomics.{stays_same, way_there}
+use Rattle.gm_system.proofs.Bounded.{wake_bounded, told_may, sender_there, offered_there, called_there, console-append}
 use Rattle.gm_system.proofs.Commands.{own_is, put_size as sized, put_steady, resumed_steady}
 use Rattle.gm_system.proofs.EventEnds.{here}
 use Rattle.gm_system.proofs.Items.{active_below}
 use Rattle.gm_system.proofs.Machines.{begun_sound, first_sound, all_delivered, parts-taken_out, fire_sound, fire_bytes}
 use Rattle.gm_system.proofs.Deliveries.{alike}
 use Rattle.gm_system.proofs.Runs.{deliver_tick, fire_tick, timed_of, nothing_replays, replays_then}
-use Rattle.gm_system.proofs.Systems.{part_there}
 use Rattle.gm_system.proofs.Started.{start_sound, restart_sound}
 
 -- Parts.
@@ -76,12 +74,60 @@ module _ (d : Delivery) (table : List Slot) (h : IsDeliverySound d table) (it : 
   pub first_stands : IsSound h.ram d.sys (it ∷ rest)
   first_stands = subst (IsSound h.ram d.sys) e h.sound
 
--- a way takes no longer than it may
+-- a part takes no longer than it may
 pub pass_soon : (s : Sys) (table : List Slot) (k : ℕ) (x : Packet) → HasSoundParts s table → way_latency (pass_at s k x).way ≤ 1000000
 pass_soon s table k x h = (rules_are_modest.pass (object_at s k) x s.tick (h.within k)).soon
 
-pub pass_there : (d : Delivery) (table : List Slot) (k : ℕ) (x : Packet) → IsDeliverySound d table → destination d.sys.routes x.addr ≡ Some k → k < length d.sys.objects
-pass_there d table k x h e = (h.sound.net.routed x k e).there
+-- Packets that are passed at once.
+
+-- a packet that comes first has a way to a part that serves it, within the parts that it may pass
+module _ (d : Delivery) (table : List Slot) (i p : ℕ) (x : Packet) (rest : List Item) (h : IsDeliverySound d table) (e : d.items ≡ Sent i (acts.Atomic (record { 0 = p }) x) ∷ rest) where
+  pub pass_fits : MayPass x
+  pass_fits = (first_fits d table h (Sent i (acts.Atomic (record { 0 = p }) x)) rest e).0
+
+  pub has_way : HasWay passes_max d.sys (peer_in d.sys.ways i p).part x
+  has_way = way_there passes_hold h.ram d.sys rest i p x (first_stands d table h (Sent i (acts.Atomic (record { 0 = p }) x)) rest e)
+
+-- on the way: the part is there, and may be passed one part more
+pub way_part : (n k : ℕ) (s : Sys) (x : Packet) → HasWay n s k x → k < length s.objects
+unfolding HasWay
+way_part zero k s x h = absurd h
+way_part (suc n) k s x h = h.0
+
+pub way_left : (n k : ℕ) (s : Sys) (x : Packet) → HasWay n s k x → 1 ≤ n
+unfolding HasWay
+way_left zero k s x h = absurd h
+way_left (suc n) k s x h = omega arith
+
+-- the packet goes on as it is, from a machine as it is, to a part from which it has a way
+pub way_next : (n k l : ℕ) (port : PortNo) (s : Sys) (x : Packet) → HasWay (suc n) s k x → (pass_at s k x).way ≡ ways.Pass port l
+    → GoesOn (faces s k) (object_at s k) x (pass_at s k x) port.0 × HasWay n s (peer_in s.wires k port.0).part x
+unfolding HasWay
+way_next n k l port s x h e = subst (GoesFrom (λ j. HasWay n s j x) s k x) e h.1
+
+pub way_same : (d : Delivery) (k port : ℕ) (x : Packet) → GoesOn (faces d.sys k) (object_at d.sys k) x (pass_at d.sys k x) port → deliver_passed d k x ≡ d
+way_same d k port x g = stays_same d k port x g
+
+pub way_response : (s : Sys) (table : List Slot) (k : ℕ) (x : Packet) → HasSoundParts s table → MayPass x → MayPass (pass_at s k x).packet
+way_response s table k x h l = omega (arith, l, (rules_are_modest.pass (object_at s k) x s.tick (h.within k)).size)
+
+-- the delivery of a packet is that of its way: it goes on, or it is done
+pub way_goes : (n k before l i : ℕ) (port : PortNo) (d : Delivery) (x : Packet) → HasWay (suc n) d.sys k x → (pass_at d.sys k x).way ≡ ways.Pass port l
+    → deliver_atomic (suc n) d i k x before ≡ deliver_atomic n d i (peer_in d.sys.wires k port.0).part x (before + l)
+unfolding deliver_atomic
+way_goes n k before l i port d x h e =
+    let g = (way_next n k l port d.sys x h e).0 in
+    ap (λ w. pass_way (λ p t. deliver_atomic n (deliver_passed d k x) i (peer_in d.sys.wires k p).part (pass_at d.sys k x).packet t) (deliver_passed d k x) i (pass_at d.sys k x).packet before w) e
+    ∙ (ap (λ (u : Delivery). deliver_atomic n u i (peer_in d.sys.wires k port.0).part (pass_at d.sys k x).packet (before + l)) (stays_same d k port.0 x g)
+    ∙ ap (λ (z : Packet). deliver_atomic n d i (peer_in d.sys.wires k port.0).part z (before + l)) g.packet)
+
+pub way_over : (n k before l i : ℕ) (d : Delivery) (x : Packet) → (pass_at d.sys k x).way ≡ ways.Done l
+    → deliver_atomic (suc n) d i k x before ≡ done_at (deliver_passed d k x) i (pass_at d.sys k x).packet (before + l)
+unfolding deliver_atomic
+way_over n k before l i d x e =
+    ap (λ w. pass_way (λ p t. deliver_atomic n (deliver_passed d k x) i (peer_in d.sys.wires k p).part (pass_at d.sys k x).packet t) (deliver_passed d k x) i (pass_at d.sys k x).packet before w) e
+
+-- Lines, and responses to packets that were passed at once.
 
 -- the sender of a response is there
 pub done_there : (d : Delivery) (table : List Slot) (i latency : ℕ) (x : Packet) (rest : List Item) → IsDeliverySound d table → d.items ≡ Done i x latency ∷ rest → i < length d.sys.objects
@@ -170,12 +216,12 @@ wired_then s t u h k = alike s t u h k
 -- Commands.
 
 -- a machine that was built, with these bytes in RAM and this entry, or with others
-pub built_sound : (c : Config) (entry : ℕ) (ram : List ℕ) → IsValidConfig c → c.system_model ≡ false → length ram ≤ c.system_ram → IsMachineSound (start_state c entry ram) (given_table 0 (platform c))
-built_sound c entry ram v m l = start_sound c entry ram v m l
+pub built_sound : (c : Config) (entry : ℕ) (ram : List ℕ) → IsValidConfig c → length ram ≤ c.system_ram → IsMachineSound (start_state c entry ram) (given_table 0 (platform c))
+built_sound c entry ram v l = start_sound c entry ram v l
 
-pub rebuilt_sound : (c : Config) (e f : ℕ) (a b : List ℕ) (table : List Slot) → IsValidConfig c → c.system_model ≡ false → length b ≤ c.system_ram
+pub rebuilt_sound : (c : Config) (e f : ℕ) (a b : List ℕ) (table : List Slot) → IsValidConfig c → length b ≤ c.system_ram
     → IsMachineSound (start_state c e a) table → IsMachineSound (start_state c f b) table
-rebuilt_sound c e f a b table v m l h = restart_sound c e f a b table v m l h
+rebuilt_sound c e f a b table v l h = restart_sound c e f a b table v l h
 
 -- bytes are put into RAM, and parts go on
 pub put_sound : (s : Sys) (table : List Slot) (address : ℕ) (bytes : List ℕ) → IsMachineSound s table → address - 0x80000000 + length bytes ≤ length (own_ram s.objects)

@@ -64,7 +64,7 @@ module _ (laws : WakesHold) (ram : ℕ) where
       → Handled ram (record { sys = s; items = before; entries = es }) (deliver_wake (record { sys = s; items = rest; entries = es }) i w) (step_at s i w).moves
   by_woke s before rest es i w k = record {
     sound = record { net = k.net; program = k.step.program };
-    wiring = record { wires = refl; router = refl };
+    wiring = record { wires = refl; ways = refl; routes = refl };
     replayed = record { noted = (step_at s i w).entries; entries = refl; replays = k.step.replays };
     conserved = record {
       same = λ h e. omega (arith, k.same h (blind_id h e) e, weigh-append h (step_at s i w).moves.answered (step_at s i w).moves.absorbed);
@@ -80,7 +80,7 @@ module _ (laws : WakesHold) (ram : ℕ) where
       let e1 : List Entry = (step_at s q.part w).entries in
       record {
         sound = record { net = k.net; program = k.step.program };
-        wiring = record { wires = refl; router = refl };
+        wiring = record { wires = refl; ways = refl; routes = refl };
         replayed = record { noted = e1 ++ (step_at (woken s q.part w) i (told_wake (step_at s q.part w).answer p)).entries; entries = append_assoc es e1 _; replays = k.step.replays };
         conserved = record { same = λ f e. k.same f (blind_id f e) e };
       }
@@ -185,7 +185,7 @@ module _ (laws : WakesHold) (ram : ℕ) where
         less false = omega arith
 
   -- an event that was taken out: its slot was due, and isn't pending any more
-  pub event_handled : (s : Sys) (es : List Entry) (i : ℕ) (slot : SlotNo) → IsProgram ram s [] → ((k : ℕ) → IsOk s.routes ram (object_at s k)) → IsWired (peer_in s.wires) (faces s) → Net (peer_in s.wires) (faces s) [] Clear → IsRouted s.routes (faces s) (length s.objects)
+  pub event_handled : (s : Sys) (es : List Entry) (i : ℕ) (slot : SlotNo) → IsProgram ram s [] → ((k : ℕ) → IsOk s.routes ram (object_at s k)) → (wired : IsWired (peer_in s.wires) (faces s)) → Net (peer_in s.wires) (faces s) [] Clear → IsRouted s.ways (faces s) wired.depth
       → (faces s i).due slot.0 ≡ true → ((n : ℕ) → (if n == slot.0 then false else (faces s i).due n) ≡ is_pending s.pending i n)
       → ((k n : ℕ) → (k ≡ i → ⊥) → (faces s k).due n ≡ is_pending s.pending k n)
       → Handled ram (record { sys = s; items = []; entries = es }) (deliver_wake (record { sys = s; items = []; entries = es }) i (wakes.Event slot)) (step_at s i (wakes.Event slot)).moves

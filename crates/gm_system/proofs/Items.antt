@@ -9,7 +9,6 @@ use Rattle.gm_model.specs.View.{Mind}
 use Rattle.gm_words.specs.declared.act.Act.TheVariants as acts
 use Rattle.gm_words.specs.declared.entry.Entry.{Entry}
 use Rattle.gm_words.specs.declared.wake.Wake.TheVariants as wakes
-use Rattle.rv_step.specs.declared.arch.Arch.{Arch}
 use Rattle.gm_words.specs.declared.kind.Kind.TheVariants as kinds
 use Rattle.gm_laws.specs.Faces.{face_of}
 use Rattle.gm_system.specs.System.{IsSound, Handled}
@@ -45,5 +44,5 @@ module _ (ram : ℕ) where
         → Handled ram (record { sys = s; items = Sent i (acts.SetLine b l) ∷ rest; entries = es }) (deliver_line (record { sys = s; items = rest; entries = es }) (wakes.Line b l) o) (line_moves s (wakes.Line b l) o)
     by None e f = cc
     by (Some k) e f = line_handled wakes_hold ram s rest es i b l k (omega (arith, active_below 0 k s.objects e)) h
-  handle_keeps s rest es (Sent i (acts.Atomic p x)) h = atomic_handled passes_hold ram s rest es i p.0 x h
+  handle_keeps s rest es (Sent i (acts.Atomic p x)) h = atomic_handled passes_hold ram s rest i p.0 x h es
   handle_keeps s rest es (Done i x l) h = done_handled wakes_hold ram s rest es i l x h.net.placed.0 h

@@ -70,7 +70,6 @@ parts-taken_out s table n t h = record {
   slots = h.slots;
   within = h.within;
   room = h.room;
-  way = h.way;
   order = nth_order s.pending n h.order;
   once = nth_once s.pending n h.once;
 }
@@ -182,7 +181,7 @@ counted_sound d table h e =
     record {
       ram = h.ram;
       sound = sound_counts h.ram d.sys (count_event d.sys.counts d.entries) (subst (IsSound h.ram d.sys) e h.sound);
-      parts = record { numbered = h.parts.numbered; slots = h.parts.slots; within = h.parts.within; room = h.parts.room; way = h.parts.way; order = h.parts.order; once = h.parts.once };
+      parts = record { numbered = h.parts.numbered; slots = h.parts.slots; within = h.parts.within; room = h.parts.room; order = h.parts.order; once = h.parts.once };
       numbers = omega (arith, same, h.numbers);
       counts = record { retired = all.retired; sleeps = all.sleeps; traps = all.traps; device_reads = all.device_reads; device_writes = all.device_writes; ram_reads = all.ram_reads; ram_writes = all.ram_writes; hits = all.hits; misses = all.misses; refused = all.refused };
     }

@@ -118,8 +118,14 @@ module _ (laws : WakesHold) (ram : ℕ) (s : Sys) (rest : List Item) (i p : ℕ)
   pub there : (peer_in s.wires i p).part < length s.objects
   there = part_there s (peer_in s.wires i p).part (peer_in s.wires i p).port real
 
+  sends : (faces s i).sends p x ≡ true
+  sends =
+      let one = (h.net.faces i).offers_one p (omega (arith, asks)) in
+      let same : one.0 ≡ x = cc (one.1, head) in
+      subst (λ y. (faces s i).sends p y ≡ true) same one.2
+
   apart : (peer_in s.wires i p).part ≡ i → ⊥
-  apart = h.wired.apart i p ((h.net.faces i).within p (omega (arith, asks)))
+  apart = h.wired.apart i p x ((h.net.faces i).within p (omega (arith, asks))) sends
 
   -- the first wake
   abbrev pub r : Stepped

@@ -2,7 +2,7 @@
 use Rattle.std.proofs.Common.{◌≡◌, ℕ, zero, suc, ◌+◌, ◌<◌, ◌≤◌, List, [], ◌∷◌, ◌++◌, refl, sym, ◌∙◌, ap, arith, Bool, true, false, cond, ◌==◌, Some, None, length, set, get_or}
 use Rattle.gm_model.specs.Deliver.{Item, Sent, Done, sent_by}
 use Rattle.gm_model.specs.ObjState.{ObjState, Blank}
-use Rattle.gm_model.specs.View.{Mind, packets_in, part_packets, item_packets, act_packets, mind_of, memory_of, parts_mind, parts_view}
+use Rattle.gm_model.specs.View.{Mind, packets_in, part_packets, item_packets, act_packets, parts_mind, parts_view}
 use Rattle.gm_words.specs.declared.act.Act.{Act}
 use Rattle.gm_words.specs.declared.kind.Kind.TheVariants as kinds
 use Rattle.gm_words.specs.declared.packet.Packet.{Packet}
@@ -10,7 +10,7 @@ use Rattle.gm_laws.specs.Words.{weigh}
 use Rattle.gm_laws.specs.Face.{passed_packets}
 use Rattle.gm_laws.specs.Faces.{face_of}
 use Rattle.gm_system.specs.System.{others_packets}
-use Rattle.gm_laws.proofs.EachKind.{face_packets, face_mind, face_memory, blank_face}
+use Rattle.gm_laws.proofs.EachKind.{face_packets, face_mind, face_memory}
 use Rattle.gm_laws.proofs.Weights.{weigh-append}
 use Rattle.gm_laws.proofs.Bytes.{same_number}
 

@@ -1,12 +1,11 @@
 -- What changes of one object do to the list of pending events.
-use Rattle.std.proofs.Common.{◌≡◌, ℕ, refl, sym, ◌∙◌, ap, arith, Bool, true, false, cond, ◌&&◌, ◌||◌, ◌==◌, List, [], ◌∷◌, ne_eqb}
+use Rattle.std.proofs.Common.{◌≡◌, ℕ, refl, sym, ◌∙◌, ap, arith, Bool, true, false, cond, ◌||◌, ◌==◌, List, [], ◌∷◌, ne_eqb}
 use Rattle.std.proofs.lemmas.Grind.{common_steps}
 use Rattle.std.proofs.lemmas.Bool.Decides.{nat_tests}
 use Rattle.ev_queue.specs.declared.due.Due.{Due}
 use Rattle.gm_words.proofs.QueueLaws.{pending-scheduled}
-use Rattle.ev_queue.specs.PendingList.{is_of, is_before, scheduled, without, is_pending, event}
-use Rattle.gm_words.specs.Changes.{Change, Schedule, Remove, changed, changed_by, due_after}
-use Rattle.gm_laws.proofs.Bytes.{same_number}
+use Rattle.ev_queue.specs.PendingList.{is_of, without, is_pending, event}
+use Rattle.gm_words.specs.Changes.{Change, Schedule, Remove, changed, changed_by}
 
 -- the events of another object
 other-without : (es : List Due) (i k slot n : ℕ) → (i == k) ≡ false → is_pending (without es i slot) k n ≡ is_pending es k n

@@ -8,7 +8,7 @@ use Rattle.ev_queue.specs.declared.slot.Slot.{Slot}
 use Rattle.ev_queue.specs.PendingList.{IsInServiceOrder, NoneBefore, is_before, first}
 use Rattle.gm_words.specs.Moves.{Moves, no_moves, joined, AreDrawn}
 use Rattle.gm_words.specs.Replay.{replay}
-use Rattle.gm_words.specs.Routes.{Router}
+use Rattle.gm_words.specs.Routes.{Route}
 use Rattle.gm_words.specs.declared.entry.Entry.{Entry}
 use Rattle.gm_words.specs.declared.packet.Packet.{Packet}
 use Rattle.gm_words.specs.declared.wake.Wake.TheVariants as wakes
@@ -36,7 +36,7 @@ use Rattle.gm_system.proofs.Machines.{false_is, parts-taken_out, begun_sound, fi
 pub replays_then : (s t u : Sys) (a b : List Entry) → IsWiredAlike s t → Replays s a t → Replays t b u → Replays s (a ++ b) u
 replays_then s t u a b w h k =
     replay-append s.routes (program_state s []) (program_state t []) a b h
-    ∙ (ap (λ (r : Router). replay r.routes (program_state t []) b) (sym w.router) ∙ k)
+    ∙ (ap (λ (rs : List Route). replay rs (program_state t []) b) (sym w.routes) ∙ k)
 
 pub nothing_replays : (s : Sys) → Replays s [] s
 nothing_replays s = no_entry s.routes (program_state s []) (program_state s []) refl
@@ -94,7 +94,7 @@ pub record IsEventOf (s t : Sys) (es : List Entry) (m : Moves) (table : List Slo
   pub drawn : AreDrawn s.next m.made t.next
 
 pub nothing_of : (s : Sys) (table : List Slot) → IsSteady s table → IsEventOf s s [] no_moves table
-nothing_of s table h = record { steady = h; wiring = record { wires = refl; router = refl }; replays = nothing_replays s; conserved = λ f e. omega arith; drawn = refl }
+nothing_of s table h = record { steady = h; wiring = record { wires = refl; ways = refl; routes = refl }; replays = nothing_replays s; conserved = λ f e. omega arith; drawn = refl }
 
 pub event_then : (s t u : Sys) (a b : List Entry) (m n : Moves) (table : List Slot) → IsEventOf s t a m table → IsEventOf t u b n table → IsEventOf s u (a ++ b) (joined m n) table
 event_then s t u a b m n table h k = record {
@@ -121,7 +121,7 @@ module _ (s : Sys) (table : List Slot) (n t : ℕ) (e : Due) (h : IsSteady s tab
   pub event_of : IsEventOf s (counted (event_delivered (taken_out s n t) e)).sys (event_delivered (taken_out s n t) e).entries (event_moves (taken_out s n t) e) table
   event_of = record {
     steady = fired_sound s table n t (Some e) h there;
-    wiring = record { wires = k.wiring.wires; router = k.wiring.router };
+    wiring = record { wires = k.wiring.wires; ways = k.wiring.ways; routes = k.wiring.routes };
     replays = ap (λ es. replay s.routes (program_state s []) es) k.replayed.entries ∙ (k.replayed.replays ∙ ap (λ is. Some (program_state (event_delivered (taken_out s n t) e).sys is)) over);
     conserved = λ f i. omega (arith, k.conserved.same f i, ap (λ is. weigh f (all_packets (event_delivered (taken_out s n t) e).sys is)) over);
     drawn = drawn-append s.next (event_begun (taken_out s n t) e).sys.next (event_delivered (taken_out s n t) e).sys.next (step_at (taken_out s n t) e.owner.0 (wakes.Event e.slot)).moves.made (deliver_moves items_max (event_begun (taken_out s n t) e)).made
@@ -139,7 +139,7 @@ fire_of s table n t h = fired_of s table n t (slice_get s.pending n) h refl
 
 -- a run in service order
 due_of : (s : Sys) (table : List Slot) (o : Option Due) → IsSteady s table → IsSteady (fire_due s o).sys table × IsRunReplayed s (fire_due s o)
-due_of s table None h = (h, record { wiring = record { wires = refl; router = refl }; replays = nothing_replays s })
+due_of s table None h = (h, record { wiring = record { wires = refl; ways = refl; routes = refl }; replays = nothing_replays s })
 due_of s table (Some d) h = (let e = fire_of s table 0 d.tick h in (e.steady, record { wiring = e.wiring; replays = e.replays }))
 
 pub first_of : (s : Sys) (table : List Slot) → IsSteady s table → IsSteady (fire_first s).sys table × IsRunReplayed s (fire_first s)
@@ -147,7 +147,7 @@ first_of s table h = due_of s table (first s.pending) h
 
 pub timed_of : (s : Sys) (table : List Slot) (n : ℕ) → IsSteady s table → IsSteady (timed_run s n).sys table × IsRunReplayed s (timed_run s n)
 unfolding timed_run
-timed_of s table zero h = (h, record { wiring = record { wires = refl; router = refl }; replays = nothing_replays s })
+timed_of s table zero h = (h, record { wiring = record { wires = refl; ways = refl; routes = refl }; replays = nothing_replays s })
 timed_of s table (suc n) h =
     let r = timed_of s table n h in
     let e = first_of (timed_run s n).sys table r.0 in (

@@ -27,7 +27,7 @@ pub record IsStill (ram : ℕ) (s : Sys) : Type 0 where
   pub parts : (k : ℕ) → IsOk s.routes ram (object_at s k)
   pub idle : (k : ℕ) → IsIdle (faces s k)
   pub wired : IsWired (peer_in s.wires) (faces s)
-  pub routed : IsRouted s.routes (faces s) (length s.objects)
+  pub routed : IsRouted s.ways (faces s) wired.depth
   pub due : (k n : ℕ) → (faces s k).due n ≡ is_pending s.pending k n
   pub empty : part_packets s.objects ≡ []
   pub cpu : ℕ

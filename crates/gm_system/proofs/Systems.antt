@@ -4,8 +4,7 @@ use Rattle.std.proofs.lemmas.Bool.{cases_eq, cases_lt}
 use Rattle.std.proofs.lemmas.List.{get_or-set_same, get_or-set_other, get_or_past}
 use Rattle.ev_queue.specs.PendingList.{is_pending}
 use Rattle.gm_model.specs.Deliver.{Item, Sent, Done, sent_by}
-use Rattle.gm_model.specs.ObjState.{ObjState, Blank}
-use Rattle.gm_model.specs.ObjectStep.{object_step}
+use Rattle.gm_model.specs.ObjState.{Blank}
 use Rattle.gm_words.specs.Routes.{Route}
 use Rattle.gm_model.specs.Stepped.{Stepped}
 use Rattle.gm_words.specs.Changes.{changed, due_after}
@@ -98,7 +97,7 @@ pub record IsBefore (ram : ℕ) (s : Sys) (items : List Item) (d : Debt) (i : �
   pub others : (k n : ℕ) → (k ≡ i → ⊥) → (faces s k).due n ≡ is_pending s.pending k n
   pub fired : (n : ℕ) → w ≡ wakes.Event (record { 0 = n }) → (faces s i).due n ≡ true
   pub sent : AllItemsOk items
-  pub routed : IsRouted s.routes (faces s) (length s.objects)
+  pub routed : IsRouted s.ways (faces s) wired.depth
   pub placed : IsPlaced (faces s) (length s.objects) items
 
 module _ (laws : WakesHold) (ram : ℕ) (s : Sys) (items : List Item) (i : ℕ) (w : Wake) (d e : Debt) (h : IsBefore ram s items d i w) (here : i < length s.objects)
@@ -178,14 +177,16 @@ module _ (ram : ℕ) (s : Sys) (items : List Item) (i : ℕ) (w : Wake) (r : Ste
     wired = record {
       both = h.wired.both;
       real = λ k p g. omega (arith, ports_same (peer_in s.wires k p).part, h.wired.real k p (omega (arith, ports_same k)));
-      apart = λ k p g. h.wired.apart k p (omega (arith, ports_same k));
+      apart = λ k p x l g. h.wired.apart k p x (omega (arith, l, ports_same k)) (sym (sends_same k p x) ∙ g);
       fit = λ k p x l g. admits_same (peer_in s.wires k p).part (peer_in s.wires k p).port x ∙ h.wired.fit k p x (omega (arith, l, ports_same k)) (sym (sends_same k p x) ∙ g);
+      depth = h.wired.depth;
+      falls = λ k p x l g e. h.wired.falls k p x (omega (arith, l, ports_same k)) (sym (passes_same k p) ∙ g) (sym (sends_same k p x) ∙ e);
     };
     net = net_woken (peer_in s.wires) (faces s) (faces (put s i r)) h.wired i w r.answer r.acts law (λ k n. ap face_of (at_other k n)) items d e h.net pays;
     due = due_now;
     sent = items-append items (sent_by i r.acts) h.sent (items-sent i r.acts ks.acts);
-    routed = λ x k e. (let m = h.routed x k e in
-        record { there = omega (arith, m.there, length-set s.objects i r.state); fits = admits_same k 0 x ∙ m.fits });
+    routed = λ k p x g l. (let e = peer_in s.ways k p in let m = h.routed k p x (sym (instants_same k) ∙ g) l in
+        record { deep = m.deep; there = omega (arith, m.there, ports_same e.part); fits = admits_same e.part e.port x ∙ m.fits });
     placed = placed-append (faces (put s i r)) (length (set s.objects i r.state)) items (sent_by i r.acts)
         (placed-change (faces s) (faces (put s i r)) (length s.objects) (length (set s.objects i r.state)) instants_same (length-set s.objects i r.state) items h.placed)
         (placed-sent (faces (put s i r)) (length (set s.objects i r.state)) i r.acts (hops-change (faces s i) (faces (put s i r) i) (instants_same i) r.acts ks.hops));

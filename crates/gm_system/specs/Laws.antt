@@ -1,5 +1,5 @@
 -- The theorems on machines: they start sound, they stay sound, and each event comes to an end. This project's own laws.
-use Rattle.std.specs.Prelude.{◌≡◌, ℕ, ◌+◌, ◌-◌, ◌≤◌, false, List, [], length, map, slice_get, Some}
+use Rattle.std.specs.Prelude.{◌≡◌, ℕ, ◌+◌, ◌-◌, ◌≤◌, List, [], length, map, slice_get, Some}
 use Rattle.cfg_tree.specs.Valid.{IsValidConfig}
 use Rattle.cfg_tree.specs.declared.config.Config.{Config}
 use Rattle.ev_queue.specs.declared.due.Due.{Due}
@@ -18,9 +18,9 @@ use Rattle.gm_model.specs.Sys.{Sys}
 use Rattle.gm_model.specs.View.{own_ram}
 use Rattle.gm_system.specs.Machine.{IsSteady, IsMachineSound, IsDeliverySound, IsTimely, entries_max}
 
--- a machine in atomic mode is sound at its start; and once it drains, goes on, gets input, or gets bytes in RAM, it still is
+-- a machine is sound at its start, in either mode; and once it drains, goes on, gets input, or gets bytes in RAM, it still is
 pub record StartsSound : Type 0 where
-  pub start : (c : Config) (entry : ℕ) (ram : List ℕ) → IsValidConfig c → c.system_model ≡ false → length ram ≤ c.system_ram
+  pub start : (c : Config) (entry : ℕ) (ram : List ℕ) → IsValidConfig c → length ram ≤ c.system_ram
       → IsMachineSound (start_state c entry ram) (given_table 0 (platform c))
   pub drained : (s : Sys) (table : List Slot) → IsSteady s table → IsSteady (drain_begun s) table
   pub resumed : (s : Sys) (table : List Slot) → IsSteady s table → IsSteady (resumed_state s) table

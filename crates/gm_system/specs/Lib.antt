@@ -1,5 +1,6 @@
 pub mod Net
 pub mod System
+pub mod Ways
 pub mod Machine
 pub mod Runs
 pub mod Laws

@@ -1,7 +1,7 @@
 -- The invariant of a machine: what makes each call of a part allowed, between two events and in the middle of one. One record for
 -- both modes, whichever kinds of parts there are. This project's own invariant.
 use Rattle.std.specs.Prelude.{◌≡◌, ℕ, ◌+◌, ◌*◌, ◌^◌, ◌<◌, ◌≤◌, IsTrue, List, [], ◌∷◌, length, sum_by}
-use Rattle.gc_base.specs.declared.limits.TheConstants.{LATENCY_MAX, TOP}
+use Rattle.gc_base.specs.declared.limits.TheConstants.{TOP}
 use Rattle.ev_queue.specs.declared.due.Due.{Due}
 use Rattle.ev_queue.specs.declared.slot.Slot.{Slot}
 use Rattle.ev_queue.specs.PendingList.{IsInServiceOrder, HoldsSlotsOnce}
@@ -34,7 +34,6 @@ pub record HasSoundParts (s : Sys) (table : List Slot) : Type 0 where
   pub slots : (k : ℕ) → k < length s.objects → IsTrue (gave_from table k 0 (slots_of (object_at s k)))
   pub within : (k : ℕ) → IsWithin (object_at s k)
   pub room : sum_by most_of s.objects + 12 ≤ fuel_max
-  pub way : s.router.latency ≤ 2 * LATENCY_MAX
   pub order : IsInServiceOrder s.pending
   pub once : HoldsSlotsOnce s.pending
 

@@ -66,12 +66,15 @@ pub record Net (peer : ℕ → ℕ → End) (f : ℕ → Face) (items : List Ite
       → (f (peer k p).part).route x ≡ lane
   pub fed : (q lane : ℕ) → (f q).hungry lane ≡ true → Feeds peer f items d q lane
 
--- the ports' peers: both ways, at a port of theirs, and at one that admits what is sent there
+-- the ports' peers: both ways, at a port of theirs, and, where anything is sent, at one of another part that admits it; and a packet
+-- that is passed on comes nearer to the last part of its way, by the depths of the parts
 pub record IsWired (peer : ℕ → ℕ → End) (f : ℕ → Face) : Type 0 where
   pub both : (k p : ℕ) → peer (peer k p).part (peer k p).port ≡ record { part = k; port = p }
   pub real : (k p : ℕ) → p < (f k).ports → (peer k p).port < (f (peer k p).part).ports
-  pub apart : (k p : ℕ) → p < (f k).ports → (peer k p).part ≡ k → ⊥
+  pub apart : (k p : ℕ) (x : Packet) → p < (f k).ports → (f k).sends p x ≡ true → (peer k p).part ≡ k → ⊥
   pub fit : (k p : ℕ) (x : Packet) → p < (f k).ports → (f k).sends p x ≡ true → (f (peer k p).part).admits (peer k p).port x ≡ true
+  pub depth : ℕ → ℕ
+  pub falls : (k p : ℕ) (x : Packet) → p < (f k).ports → (f k).passes p ≡ true → (f k).sends p x ≡ true → depth (peer k p).part < depth k
 
 -- a wake of the part i pays one debt and leaves another
 pub record Pays (peer : ℕ → ℕ → End) (f : ℕ → Face) (i : ℕ) (w : Wake) (answer : Answer) (d e : Debt) : Type 0 where

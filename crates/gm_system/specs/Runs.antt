@@ -1,12 +1,12 @@
 -- What is so of runs: they stay sound, what they note is the instruction set's over flat memory, and no packet is lost or doubled.
 -- Nothing here looks at the order of events. This project's own laws.
-use Rattle.std.specs.Prelude.{◌≡◌, ℕ, ◌+◌, ◌≤◌, List, [], ◌∷◌, Some, true}
+use Rattle.std.specs.Prelude.{◌≡◌, ℕ, ◌+◌, List, [], Some}
 use Rattle.ev_queue.specs.declared.slot.Slot.{Slot}
-use Rattle.gm_words.specs.Moves.{Moves, AreDrawn}
+use Rattle.gm_words.specs.Moves.{AreDrawn}
 use Rattle.gm_words.specs.Replay.{replay}
 use Rattle.gm_words.specs.declared.entry.Entry.{Entry}
 use Rattle.gm_words.specs.declared.packet.Packet.{Packet}
-use Rattle.gm_model.specs.Fire.{Ran, fire, timed_run}
+use Rattle.gm_model.specs.Fire.{Ran, timed_run}
 use Rattle.gm_model.specs.Picks.{Pick, Picked, any_run}
 use Rattle.gm_model.specs.Sys.{Sys}
 use Rattle.gm_model.specs.View.{program_state, all_packets}

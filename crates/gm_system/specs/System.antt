@@ -2,9 +2,9 @@
 -- modes, whichever kinds of parts there are.
 use Rattle.std.specs.Prelude.{◌≡◌, ℕ, ◌+◌, ◌<◌, ◌≤◌, ◌==◌, true, false, if◌then◌else◌, List, [], ◌∷◌, ◌++◌, length, Some, None, sum_by}
 use Rattle.ev_queue.specs.PendingList.{is_pending}
-use Rattle.gm_model.specs.Deliver.{Item, Sent, Done, Delivery}
+use Rattle.gm_model.specs.Deliver.{Item, Sent, Done, Delivery, passes_max}
 use Rattle.gm_words.specs.Moves.{Moves}
-use Rattle.gm_words.specs.Routes.{Route, destination, is_unmapped}
+use Rattle.gm_words.specs.Routes.{is_unmapped}
 use Rattle.gm_words.specs.Platform.{is_in_ram, End}
 use Rattle.gm_words.specs.Replay.{replay}
 use Rattle.gm_model.specs.Sys.{Sys, object_at, peer_in}
@@ -27,13 +27,14 @@ IsPlaced f n [] = Unit {0}
 IsPlaced f n (Sent i a ∷ rest) = PassOk (f i) a × IsPlaced f n rest
 IsPlaced f n (Done i x l ∷ rest) = (i < n) × IsPlaced f n rest
 
--- where packets go that are passed at once: to a part that serves such a packet
-pub record IsServedAt (f : ℕ → Face) (n k : ℕ) (x : Packet) : Type 0 where
-  pub there : k < n
-  pub fits : (f k).admits 0 x ≡ true
+-- where a packet comes in that is passed at once: at a port that admits it, of a part that isn't too far from the last of its way
+pub record FirstHop (f : ℕ → Face) (depth : ℕ → ℕ) (e : End) (x : Packet) : Type 0 where
+  pub deep : depth e.part < passes_max
+  pub there : e.port < (f e.part).ports
+  pub fits : (f e.part).admits e.port x ≡ true
 
-abbrev pub IsRouted : List Route → (ℕ → Face) → ℕ → Type 0
-IsRouted rs f n = (x : Packet) (k : ℕ) → destination rs x.addr ≡ Some k → IsServedAt f n k x
+abbrev pub IsRouted : List (List End) → (ℕ → Face) → (ℕ → ℕ) → Type 0
+IsRouted ways f depth = (i p : ℕ) (x : Packet) → (f i).instant ≡ true → p < 2 → FirstHop f depth (peer_in ways i p) x
 
 -- what holds of the ports and of the pending events, also in the middle of an item
 pub record IsNet (ram : ℕ) (s : Sys) (items : List Item) (d : Debt) : Type 0 where
@@ -42,7 +43,7 @@ pub record IsNet (ram : ℕ) (s : Sys) (items : List Item) (d : Debt) : Type 0 w
   pub net : Net (peer_in s.wires) (faces s) items d
   pub due : (k n : ℕ) → (faces s k).due n ≡ is_pending s.pending k n
   pub sent : AllItemsOk items
-  pub routed : IsRouted s.routes (faces s) (length s.objects)
+  pub routed : IsRouted s.ways (faces s) wired.depth
   pub placed : IsPlaced (faces s) (length s.objects) items
 
 -- the packets that are passed at once by others than the part c
@@ -95,7 +96,8 @@ pub record IsConserved (d e : Delivery) (m : Moves) : Type 0 where
 -- what never changes of a machine
 pub record IsWiredAlike (s t : Sys) : Type 0 where
   pub wires : t.wires ≡ s.wires
-  pub router : t.router ≡ s.router
+  pub ways : t.ways ≡ s.ways
+  pub routes : t.routes ≡ s.routes
 
 -- what one item, or the wake of an event, does: the machine stays sound, what is noted is right, and no packet is lost
 pub record Handled (ram : ℕ) (d e : Delivery) (m : Moves) : Type 0 where
