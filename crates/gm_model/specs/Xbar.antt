@@ -248,13 +248,15 @@ xbar_atomic s x = let p : ℕ = layer_for s.ports x false in xbar_atomic_at s x 
 
 -- Packets without time.
 
+-- the first of two that is there
+abbrev pub first_there : Option (List ℕ) → Option (List ℕ) → Option (List ℕ)
+first_there (Some bytes) other = Some bytes
+first_there None other = other
+
 -- so many bytes at an address of a write-back that a layer holds, if one covers it
 abbrev pub held_bytes : List Lane → ℕ → ℕ → Option (List ℕ)
 held_bytes [] address count = None
-held_bytes (l ∷ ls) address count = first_of (queued_bytes l.flow.items address count) where
-  first_of : Option (List ℕ) → Option (List ℕ)
-  first_of (Some bytes) = Some bytes
-  first_of None = held_bytes ls address count
+held_bytes (l ∷ ls) address count = first_there (queued_bytes l.flow.items address count) (held_bytes ls address count)
 
 -- a read without time of these bytes, if there are any; else it is left as it is
 abbrev pub read_of : Packet → Option (List ℕ) → Packet

@@ -1,5 +1,5 @@
 -- How a flow is kept: the packets in a pool, and their keys in the order of the flow. This project's own rule.
-use Rattle.std.specs.Prelude.{◌≡◌, ℕ, ◌≤◌, ◌==◌, ◌||◌, Bool, false, if◌then◌else◌, List, [], ◌∷◌, length, Option, Some, None, IsSomeAnd}
+use Rattle.std.specs.Prelude.{◌≡◌, ℕ, ◌≤◌, ◌==◌, ◌||◌, Bool, true, false, if◌then◌else◌, List, [], ◌∷◌, length, Option, Some, None, IsSomeAnd}
 use Rattle.gm_words.specs.Allowed.{MayPass}
 use Rattle.gm_words.specs.Flow.{Flow, Queued, OutState, Quiet, Due, Asked, Waits}
 use Rattle.gm_words.specs.declared.act.Act.{Act}
@@ -21,6 +21,12 @@ out_of heads.Quiet = Quiet
 out_of heads.Due = Due
 out_of heads.Asked = Asked
 out_of heads.Waits = Waits
+
+abbrev pub is_waiting : OutState → Bool
+is_waiting Quiet = false
+is_waiting Due = false
+is_waiting Asked = false
+is_waiting Waits = true
 
 -- a packet in front, if there is one, which is ready from a tick on
 abbrev pub queued_by : ℕ → Option Packet → List Queued → List Queued

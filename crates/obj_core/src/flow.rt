@@ -5,10 +5,10 @@ ghost use Rattle.gm_words.specs.Allowed.{MayPass};
 ghost use Rattle.gm_words.specs.Changes.{changed};
 ghost use Rattle.gm_words.specs.Flow.{quiet_flow, Waits};
 ghost use Rattle.gm_words.specs.Packet.{carried_bytes, read_response};
-ghost use Rattle.gm_model.specs.Flows.{head_of, put_in, ask_in, hold_in, again_in, gone_in};
+ghost use Rattle.gm_model.specs.Flows.{head_of, is_due_out, put_in, ask_in, hold_in, again_in, gone_in};
 ghost use Rattle.gm_model.specs.Memory.{queued_bytes, covers};
 ghost use Rattle.gm_model.specs.Xbar.{read_of};
-ghost use Rattle.obj_core.specs.Kept.{with_first, with_front, offered, offers};
+ghost use Rattle.obj_core.specs.Kept.{is_waiting, with_first, with_front, offered, offers};
 ghost use Rattle.obj_core.specs.Out.{extended};
 
 use crate::outbox::Outbox;
@@ -87,6 +87,20 @@ impl Flow {
         ensures { result ≡ nat_lt (length self.now.flow.items) self.now.places }
     {
         self.queue.len() < self.places as usize
+    }
+
+    /// Whether the event of the first packet is pending.
+    pub fn is_due(&self) -> bool
+        ensures { result ≡ is_due_out self.now.flow.out }
+    {
+        matches!(self.head, Head::Due)
+    }
+
+    /// Whether the first packet was refused, and waits.
+    pub fn waits(&self) -> bool
+        ensures { result ≡ is_waiting self.now.flow.out }
+    {
+        matches!(self.head, Head::Waits)
     }
 
     /// The first packet, lent, if there is one.
@@ -172,6 +186,15 @@ impl Flow {
         if let Some(place) = self.queue.pop_front() {
             self.pool.take(place.key);
         }
+    }
+
+    /// Drops the only packet, if there is one.
+    pub fn drop_only(&mut self)
+        requires { length self.old.flow.items ≤ 1 }
+        ensures { self.new ≡ record self.old { flow = quiet_flow } }
+    {
+        self.take_first();
+        self.head = Head::Quiet;
     }
 
     /// Another packet stands in place of the first.

@@ -16,6 +16,7 @@ pub struct Pool {
 }
 
 impl Model for Pool {
+    ghost use Rattle.std.specs.Prelude.{◌≤◌};
     ghost use Rattle.pkt_pool.specs.Pooled.{Pooled};
 
     ghost Value = { Pooled };
