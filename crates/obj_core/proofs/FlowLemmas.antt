@@ -1,10 +1,13 @@
 -- The packets that keys stand for, as packets come in and go.
-use Rattle.std.proofs.Common.{◌≡◌, ◌≢◌, ℕ, suc, zero, ◌+◌, ◌≤◌, ◌<◌, ◌==◌, ◌||◌, refl, sym, ◌∙◌, ap, arith, subst, eq-eqb, ne_eqb, Bool, true, false, List, [], ◌∷◌, ◌++◌, length, ◌⊎◌, inl, inr, Option, Some, None, IsSomeAnd}
+use Rattle.std.proofs.Common.{◌≡◌, ◌≢◌, ℕ, suc, zero, ◌+◌, ◌≤◌, ◌<◌, ◌==◌, ◌||◌, refl, sym, ◌∙◌, ap, arith, subst, eq-eqb, ne_eqb, Bool, true, false, List, [], ◌∷◌, ◌++◌, ◌-◌, length, take, drop, get_or, ◌⊎◌, inl, inr, Option, Some, None, IsSomeAnd, OnSome}
 use Rattle.std.proofs.lemmas.Bool.{cases_eq}
+use Rattle.std.proofs.lemmas.List.{drop_more}
 use Rattle.gm_words.specs.Allowed.{MayPass}
 use Rattle.gm_words.specs.Flow.{Queued}
 use Rattle.gm_words.specs.declared.packet.Packet.{Packet}
+use Rattle.gm_words.specs.Packet.{carried_bytes}
 use Rattle.gm_model.specs.Flows.{head_of}
+use Rattle.gm_model.specs.Memory.{covers, queued_bytes}
 use Rattle.pkt_pool.specs.Pooled.{Pooled, packet_at, count, Changes}
 use Rattle.obj_core.specs.Kept.{queued_by, queued, is_key, AreHeld, IsKept, with_first, with_front}
 use Rattle.obj_core.specs.declared.flow.Place.{Place}
@@ -44,7 +47,7 @@ unseen p r (x ∷ xs) k s c n =
 still_held : (p r : Pooled) (xs : List Place) (k : ℕ) (s : Option Packet) → Changes p r k s → is_key k xs ≡ false → AreHeld p xs → AreHeld r xs
 still_held p r [] k s c n h = tt
 still_held p r (x ∷ xs) k s c n h =
-    (subst (λ o. IsSomeAnd o MayPass) (sym (c.others x.key (other_first x xs k n))) h.0, (h.1, still_held p r xs k s c (others x xs k n) h.2))
+    (subst (λ o. IsSomeAnd o MayPass) (sym (c.others x.key (other_first x xs k n))) h.0, h.1, still_held p r xs k s c (others x xs k n) h.2)
 
 -- What is in a flow.
 
@@ -87,11 +90,11 @@ key_end j k ready (x ∷ xs) n d = rw (ne_eqb x.key j (other_first x xs j n)) (k
 
 pub put_held : (p r : Pooled) (xs : List Place) (k ready : ℕ) (y : Packet) → Changes p r k (Some y) → packet_at p k ≡ None → MayPass y → AreHeld p xs
     → AreHeld r (xs ++ record { key = k; ready = ready } ∷ [])
-put_held p r [] k ready y c e m h = (held_some (packet_at r k) y c.changed m, (refl, tt))
+put_held p r [] k ready y c e m h = (held_some (packet_at r k) y c.changed m, refl, tt)
 put_held p r (x ∷ xs) k ready y c e m h =
     let d : x.key ≢ k = other_first x xs k (vacant p (x ∷ xs) k h e) in
     (subst (λ o. IsSomeAnd o MayPass) (sym (c.others x.key d)) h.0,
-     (key_end x.key k ready xs h.1 (λ s. d (sym s)), put_held p r xs k ready y c e m h.2))
+     key_end x.key k ready xs h.1 (λ s. d (sym s)), put_held p r xs k ready y c e m h.2)
 
 -- The first packet goes.
 
@@ -111,8 +114,61 @@ front_queued p r xs k ready y c e h =
 pub front_held : (p r : Pooled) (xs : List Place) (k ready : ℕ) (y : Packet) → Changes p r k (Some y) → packet_at p k ≡ None → MayPass y → AreHeld p xs
     → AreHeld r (record { key = k; ready = ready } ∷ xs)
 front_held p r xs k ready y c e m h =
-    (held_some (packet_at r k) y c.changed m, (vacant p xs k h e, still_held p r xs k (Some y) c (vacant p xs k h e) h))
+    (held_some (packet_at r k) y c.changed m, vacant p xs k h e, still_held p r xs k (Some y) c (vacant p xs k h e) h)
 
--- the packets in front of which the first stood
-pub first_gone : (p : Pooled) (x : Place) (xs : List Place) (y : Packet) → packet_at p x.key ≡ Some y → queued p (x ∷ xs) ≡ record { packet = y; ready = x.ready } ∷ queued p xs
-first_gone p x xs y e = rw e refl
+-- what is said of a packet that is there
+pub as_there : {A : Type 0} (r o : Option Packet) → r ≡ o → IsSomeAnd o MayPass → OnSome r A → A
+as_there None None e h f = absurd h
+as_there None (Some y) e h f = absurd (cc)
+as_there (Some y) o e h f = f
+
+rest_by : (ready : ℕ) (o : Option Packet) (qs : List Queued) → IsSomeAnd o MayPass → drop 1 (queued_by ready o qs) ≡ qs
+rest_by ready None qs h = absurd h
+rest_by ready (Some y) qs h = refl
+
+front_by : (z : Packet) (to ready : ℕ) (o : Option Packet) (qs : List Queued) → IsSomeAnd o MayPass → with_front z to (queued_by ready o qs) ≡ record { packet = z; ready = to } ∷ qs
+front_by z to ready None qs h = absurd h
+front_by z to ready (Some y) qs h = refl
+
+pub first_held : (p : Pooled) (items : List Place) (x : Place) (xs : List Place) → items ≡ x ∷ xs → AreHeld p items → AreHeld p (x ∷ xs)
+first_held p items x xs e h = subst (λ l. AreHeld p l) e h
+
+-- the first is gone
+pub rest_of : (p r : Pooled) (items : List Place) (x : Place) (xs : List Place) (s : Option Packet) → items ≡ x ∷ xs → AreHeld p items → Changes p r x.key s
+    → queued r xs ≡ drop 1 (queued p items)
+rest_of p r items x xs s e h c =
+    rw e (taken_queued p r x xs s c (first_held p items x xs e h) ∙ sym (rest_by x.ready (packet_at p x.key) (queued p xs) (first_held p items x xs e h).0))
+
+-- another stands in its place
+pub front_of : (p r t : Pooled) (items : List Place) (x : Place) (xs : List Place) (s : Option Packet) (k ready : ℕ) (y : Packet) → items ≡ x ∷ xs → AreHeld p items
+    → Changes p r x.key s → Changes r t k (Some y) → packet_at r k ≡ None
+    → queued t (record { key = k; ready = ready } ∷ xs) ≡ with_front y ready (queued p items)
+front_of p r t items x xs s k ready y e h c d v =
+    let g : AreHeld p (x ∷ xs) = first_held p items x xs e h in
+    rw e (front_queued r t xs k ready y d v (taken_held p r x xs s c g) ∙ ap (λ qs. record { packet = y; ready = ready } ∷ qs) (taken_queued p r x xs s c g)
+     ∙ sym (front_by y ready x.ready (packet_at p x.key) (queued p xs) g.0))
+
+-- The newest write-back that covers an address.
+
+-- who isn't there
+pub newest_gone : (p : Pooled) (xs : List Place) (n a c : ℕ) (d : Place) → n < length xs → packet_at p (get_or xs n d).key ≡ None
+    → queued_bytes (queued p (drop (n + 1) xs)) a c ≡ None → queued_bytes (queued p (drop n xs)) a c ≡ None
+newest_gone p xs n a c d l e h = rw (drop_more xs n d l) (rw e h)
+
+-- who doesn't cover it
+pub newest_other : (p : Pooled) (xs : List Place) (n a c : ℕ) (d : Place) (y : Packet) → n < length xs → packet_at p (get_or xs n d).key ≡ Some y → covers y a ≡ false
+    → queued_bytes (queued p (drop (n + 1) xs)) a c ≡ None → queued_bytes (queued p (drop n xs)) a c ≡ None
+newest_other p xs n a c d y l e v h = rw (drop_more xs n d l) (rw e (rw h (rw v refl)))
+
+-- and those before it, once there is one
+older : (p : Pooled) (xs : List Place) (n a c : ℕ) (b : List ℕ) → queued_bytes (queued p (drop n xs)) a c ≡ Some b → queued_bytes (queued p xs) a c ≡ Some b
+older p xs zero a c b h = h
+older p [] (suc n) a c b h = h
+older p (x ∷ xs) (suc n) a c b h = more (packet_at p x.key) (older p xs n a c b h) where
+  more : (o : Option Packet) → queued_bytes (queued p xs) a c ≡ Some b → queued_bytes (queued_by x.ready o (queued p xs)) a c ≡ Some b
+  more None g = g
+  more (Some y) g = rw g refl
+
+pub newest_found : (p : Pooled) (xs : List Place) (n a c : ℕ) (d : Place) (y : Packet) → n < length xs → packet_at p (get_or xs n d).key ≡ Some y → covers y a ≡ true
+    → queued_bytes (queued p (drop (n + 1) xs)) a c ≡ None → queued_bytes (queued p xs) a c ≡ Some (take c (drop (a - y.addr) (carried_bytes y)))
+newest_found p xs n a c d y l e v h = older p xs n a c _ (rw (drop_more xs n d l) (rw e (rw h (rw v refl))))

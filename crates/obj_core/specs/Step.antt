@@ -17,8 +17,8 @@ pub record Takes (r : Stepped) (part part' : ObjState) (q q' : Queue) (o o' : Ou
   pub answer : r.answer ≡ Nothing
 
 -- a call took this step, and answered
-pub record Answers (r : Stepped) (part part' : ObjState) (q q' : Queue) (o o' : Out) (answer : Answer) : Type 0 where
+pub record Answers (r : Stepped) (part part' : ObjState) (q q' : Queue) (o o' : Out) (a : Answer) : Type 0 where
   pub state : part' ≡ r.state
   pub events : q' ≡ with_changes q part r.changes
   pub out : o' ≡ extended o r.acts r.entries r.next
-  pub answer : answer ≡ r.answer
+  pub answer : a ≡ r.answer

@@ -222,8 +222,8 @@ impl Flow {
         requires { MayPass p.now }
         ensures { self.new ≡ record self.old { flow = record self.old.flow { items = with_front p.now ready self.old.flow.items } } }
     {
-        if let Some(place) = self.queue.pop_front() {
-            self.pool.take(place.key);
+        if let Some(first) = self.queue.pop_front() {
+            self.pool.take(first.key);
             let key = self.pool.put_reserved(*p);
             self.queue.push_front_reserved(Place { key, ready });
         }
@@ -304,6 +304,7 @@ fn covers(held: &Packet, addr: u64) -> bool
 }
 
 /// Answers a read by what a write-back that covers its address carries.
+#[tactic(auto, using(std::proofs::lemmas::List::take_min))]
 fn answer(p: &mut Packet, held: &Packet)
     requires size { MayPass p.old }
     requires bytes { MayPass held.now }
@@ -311,6 +312,7 @@ fn answer(p: &mut Packet, held: &Packet)
     ensures { p.new ≡ read_response p.old (take p.old.size (drop (p.old.addr - held.now.addr) (carried_bytes held.now))) }
 {
     let from = (p.addr - held.addr) as usize;
-    let count = (p.size as usize).min(held.size as usize - from);
-    p.answer(&held.bytes[from..from + count]);
+    let rest = &held.bytes[..held.size as usize][from..];
+    let count = (p.size as usize).min(rest.len());
+    p.answer(&rest[..count]);
 }

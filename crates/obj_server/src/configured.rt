@@ -16,7 +16,7 @@ use crate::own_event::OwnEvent;
 use crate::server::{PORT, Server};
 use ev_queue::{EventHandle, EventQueue};
 use gc_base::limits::TOP;
-use gc_base::{PortNo, SlotNo, Tick};
+use gc_base::{SlotNo, Tick};
 use gm_model::{Answer, Entry, Packet, Wake};
 use obj_core::Outbox;
 
@@ -72,6 +72,7 @@ impl<D: Device> Configured<D> {
     // Offers.
 
     /// A request is offered: it is taken where there is a place for it.
+    #[tactic(auto, using(obj_core::proofs::StepLemmas::put_acts))]
     pub(crate) fn offered(
         &mut self,
         p: &Packet,
@@ -83,8 +84,8 @@ impl<D: Device> Configured<D> {
         requires tick { now ≤ TOP }
         requires room { HasRoom out.old }
         requires handles { IsTrue (gave_from q.old.table self.old.server.object.0 0 (slot_classes D.kind)) }
-        ensures { (port : PortNo) → let d = D.shown self.old.device in let before = server_state self.old.server d in
-            Answers (server_step before out.old.next (wakes.Offer port p.now) now)
+        ensures { let d = D.shown self.old.device in let before = server_state self.old.server d in
+            Answers (server_step before out.old.next (wakes.Offer (record { 0 = 0 }) p.now) now)
             (server_of self.old.server d) (server_of self.new.server (D.shown self.new.device)) q.old q.new out.old out.new result }
     {
         if self.server.queue.has_room() {
@@ -103,6 +104,7 @@ impl<D: Device> Configured<D> {
     // Its event.
 
     /// The first request is served: its response is offered, or it is gone, where it has none.
+    #[tactic(auto, using(crate::proofs::Serves::few_acts, obj_core::proofs::StepLemmas::ask_changes))]
     pub(crate) fn serves(&mut self, now: Tick, q: &mut EventQueue, out: &mut Outbox)
         requires tick { now ≤ TOP }
         requires room { HasRoom out.old }
@@ -128,6 +130,7 @@ impl<D: Device> Configured<D> {
     // Wakes.
 
     /// Its step rule.
+    #[tactic(auto, using(obj_core::proofs::StepLemmas::hold_acts, obj_core::proofs::StepLemmas::hold_changes, obj_core::proofs::StepLemmas::again_changes))]
     pub(crate) fn wake(
         &mut self,
         w: &Wake,

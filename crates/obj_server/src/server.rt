@@ -111,6 +111,7 @@ impl Server {
     // Its queue.
 
     /// The first request is gone, and the next is served a latency later. Who waits for a place is called.
+    #[tactic(auto, using(obj_core::proofs::StepLemmas::gone_acts, obj_core::proofs::StepLemmas::opened_flow, obj_core::proofs::StepLemmas::opened_changes, obj_core::proofs::StepLemmas::opened_waiting, obj_core::proofs::StepLemmas::opened_acts))]
     pub(crate) fn remove_first(
         &mut self,
         now: Tick,

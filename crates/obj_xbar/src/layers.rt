@@ -93,6 +93,7 @@ impl Layers {
     // Wakes.
 
     /// Its step rule.
+    #[tactic(auto, using(obj_core::proofs::StepLemmas::hold_acts, obj_core::proofs::StepLemmas::hold_changes, obj_core::proofs::StepLemmas::again_changes))]
     pub(crate) fn wake(
         &mut self,
         w: &Wake,
@@ -146,6 +147,7 @@ impl Layers {
     }
 
     /// A packet is offered whose layer is that of a port.
+    #[tactic(auto, using(obj_core::proofs::StepLemmas::put_acts))]
     fn offered_to(
         &mut self,
         to: usize,
@@ -176,6 +178,7 @@ impl Layers {
     }
 
     /// A packet is offered whose address is of no port.
+    #[tactic(auto, using(obj_core::proofs::StepLemmas::put_acts))]
     fn offered_beside(
         &mut self,
         port: PortNo,
@@ -216,6 +219,7 @@ impl Layers {
     }
 
     /// The event of a layer: its packet is offered, or, where its address is of no port, refused by fault.
+    #[tactic(auto, using(obj_core::proofs::StepLemmas::ask_changes))]
     fn event(&mut self, slot: SlotNo, now: Tick, q: &mut EventQueue, out: &mut Outbox)
         requires tick { now ≤ TOP }
         requires room { HasRoom out.old }
