@@ -9,7 +9,7 @@ use Rattle.gm_model.specs.ObjState.{ObjState, Blank, AtomicCpu, TimingCpu, Xbar,
 use Rattle.gm_model.specs.Stepped.{Stepped, Passed, stays, drops}
 use Rattle.gm_model.specs.AtomicCpu.{atomic_cpu_step}
 use Rattle.gm_model.specs.TimingCpu.{timing_cpu_step}
-use Rattle.gm_model.specs.Xbar.{xbar_step, xbar_atomic}
+use Rattle.gm_model.specs.Xbar.{xbar_step, xbar_atomic, xbar_functional}
 use Rattle.gm_model.specs.Server.{server_step, server_atomic, functional_read}
 
 -- a part that isn't configured does nothing with what comes
@@ -42,10 +42,10 @@ atomic_step (TimingCpu s) p now = not_passed (TimingCpu s) p
 atomic_step (Xbar s) p now = xbar_atomic s p
 atomic_step (Server s) p now = server_atomic s p now
 
--- what becomes of a read that is passed to a part without time: only memory answers it
+-- what becomes of a read that is passed to a part without time: memory answers it, or a write-back on its way there
 abbrev pub functional_step : ObjState → Packet → Packet
 functional_step (Blank k) p = p
 functional_step (AtomicCpu s) p = p
 functional_step (TimingCpu s) p = p
-functional_step (Xbar s) p = p
+functional_step (Xbar s) p = xbar_functional s p
 functional_step (Server s) p = functional_read s p s.device

@@ -246,6 +246,27 @@ xbar_atomic_at s x p false =
 abbrev pub xbar_atomic : XbarState → Packet → Passed
 xbar_atomic s x = let p : ℕ = layer_for s.ports x false in xbar_atomic_at s x p (p == length s.ports)
 
+-- Packets without time.
+
+-- the first of two that is there
+abbrev pub first_there : Option (List ℕ) → Option (List ℕ) → Option (List ℕ)
+first_there (Some bytes) other = Some bytes
+first_there None other = other
+
+-- so many bytes at an address of a write-back that a layer holds, if one covers it
+abbrev pub held_bytes : List Lane → ℕ → ℕ → Option (List ℕ)
+held_bytes [] address count = None
+held_bytes (l ∷ ls) address count = first_there (queued_bytes l.flow.items address count) (held_bytes ls address count)
+
+-- a read without time of these bytes, if there are any; else it is left as it is
+abbrev pub read_of : Packet → Option (List ℕ) → Packet
+read_of p (Some bytes) = read_response p bytes
+read_of p None = p
+
+-- a write-back that a layer holds answers a read of its bytes, and another read is left as it is
+abbrev pub xbar_functional : XbarState → Packet → Packet
+xbar_functional s p = read_of p (held_bytes (s.side.lane ∷ s.lanes) p.addr p.size)
+
 -- Drain and resume.
 
 abbrev pub xbar_draining : Bool → XbarState → Commanded

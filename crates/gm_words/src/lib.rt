@@ -16,7 +16,7 @@ mod own;
 mod packet;
 mod params;
 pub mod platform;
-mod port_use;
+pub mod port_use;
 mod wake;
 mod way;
 

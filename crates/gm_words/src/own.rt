@@ -1,8 +1,10 @@
 // What a part is configured with, by its kind.
-ghost use Rattle.std.specs.Prelude.{◌≡◌};
+ghost use Rattle.std.specs.Prelude.{◌≡◌, IfOk};
 
 use crate::kind::Kind;
-use crate::port_use::PortUse;
+use crate::port_use::{PortUse, used, xbar_classes};
+use gc_base::NoMemory;
+use std::alloc::Global;
 
 /// What a part is configured with, by its kind. Latencies and periods are in ticks.
 #[derive(Clone, Copy, Debug, PartialEq, Eq)]
@@ -51,7 +53,7 @@ pub enum Own {
 
 impl Own {
     ghost use Rattle.gm_words.specs.Kind.{kind_of_own};
-    ghost use Rattle.gm_words.specs.Platform.{slot_classes};
+    ghost use Rattle.gm_words.specs.Platform.{own_classes};
 
     /// The kind that it configures.
     pub fn kind(&self) -> Kind
@@ -71,14 +73,15 @@ impl Own {
     }
 
     /// The classes of a part's slots, from slot 0 on. At one tick the event of a lower class is served first.
-    pub fn slots(&self) -> &'static [u8]
-        ensures { result.now ≡ slot_classes (kind_of_own self.now) }
+    pub fn classes(&self, alloc: Global) -> Result<Vec<u8>, NoMemory>
+        ensures { IfOk result (λ cs. cs.items ≡ own_classes self.now) }
     {
         match self {
-            Own::AtomicCpu { .. } | Own::TimingCpu { .. } => &[50],
-            Own::Mem { .. } | Own::Exit { .. } => &[30],
-            Own::Uart { .. } | Own::Timer { .. } => &[30, 30],
-            Own::Xbar { .. } | Own::Cache { .. } | Own::Dma { .. } => &[],
+            Own::AtomicCpu { .. } | Own::TimingCpu { .. } => Ok(Vec::from_array(alloc, [50])?),
+            Own::Mem { .. } | Own::Exit { .. } => Ok(Vec::from_array(alloc, [30])?),
+            Own::Uart { .. } | Own::Timer { .. } => Ok(Vec::from_array(alloc, [30, 30])?),
+            Own::Xbar { ports, .. } => xbar_classes(alloc, used(ports)),
+            Own::Cache { .. } | Own::Dma { .. } => Ok(Vec::new(alloc)),
         }
     }
 }

@@ -1,9 +1,22 @@
 // What the parts send to each other.
-ghost use Rattle.std.specs.Prelude.{◌≡◌, ◌<◌, ◌≤◌};
-ghost use Rattle.gm_words.specs.Packet.{pushed, popped, top_port, fault_response};
+ghost use Rattle.std.specs.Prelude.{◌≡◌, ◌<◌, ◌≤◌, length};
+ghost use Rattle.gm_words.specs.Packet.{pushed, popped, top_port, with_front, read_response, fault_response, is_response, is_write_back};
 
 use crate::cmd::Cmd;
 use gc_base::{PktId, PortNo};
+
+/// Puts bytes in front. Words and double words, which most are, have copies of a length that is known beforehand.
+#[inline(always)]
+fn put_front(to: &mut [u8], from: &[u8])
+    requires { length from.now ≤ length to.old }
+    ensures { to.new ≡ with_front to.old from.now }
+{
+    match from.len() {
+        4 => to[..4].copy_from_slice(from),
+        8 => to[..8].copy_from_slice(from),
+        n => to[..n].copy_from_slice(from),
+    }
+}
 
 /// A request on its way to memory or a device, or the response on its way back.
 #[derive(Clone, Copy, Debug, PartialEq, Eq)]
@@ -38,13 +51,53 @@ impl Packet {
 
     /// Takes off the port that was noted last: where the response goes.
     pub fn pop_port(&mut self) -> PortNo
-        requires some { 0 < self.old.depth }
-        requires most { self.old.depth < 9 }
         ensures port { result.0 ≡ top_port self.old }
         ensures popped { self.new ≡ popped self.old }
     {
-        self.depth -= 1;
-        PortNo(self.stack[self.depth as usize])
+        let port = self.top_port();
+        self.depth = self.depth.saturating_sub(1);
+        port
+    }
+
+    /// Makes a read its response, with these bytes.
+    #[inline(always)]
+    pub fn answer(&mut self, bytes: &[u8])
+        requires { length bytes.now ≤ 64 }
+        ensures { self.new ≡ read_response self.old bytes.now }
+    {
+        put_front(&mut self.bytes, bytes);
+        self.cmd = Cmd::ReadResp;
+    }
+
+    /// Whether it is a response.
+    #[inline(always)]
+    pub fn is_response(&self) -> bool
+        ensures { result ≡ is_response self.now.cmd }
+    {
+        match self.cmd {
+            Cmd::ReadResp | Cmd::WriteResp => true,
+            Cmd::Read | Cmd::Write | Cmd::WriteBack => false,
+        }
+    }
+
+    /// Whether it is a write-back, which has no response.
+    #[inline(always)]
+    pub fn is_write_back(&self) -> bool
+        ensures { result ≡ is_write_back self.now.cmd }
+    {
+        match self.cmd {
+            Cmd::WriteBack => true,
+            Cmd::Read | Cmd::Write | Cmd::ReadResp | Cmd::WriteResp => false,
+        }
+    }
+
+    /// The port that was noted last; 0 where there is no such place.
+    #[inline(always)]
+    pub fn top_port(&self) -> PortNo
+        ensures { result.0 ≡ top_port self.now }
+    {
+        let top = self.depth.saturating_sub(1) as usize;
+        PortNo(if top < 8 { self.stack[top] } else { 0 })
     }
 
     /// Makes a request the response that refuses it by fault: a read gets zeros, and what has no response stays.

@@ -150,7 +150,10 @@ pub fn parts(alloc: Global, c: &Config) -> Result<Vec<Part>, NoMemory>
             ports: corebus_ports(),
         },
         range: None,
-        peers: Vec::from_array(alloc, [port_at(5, 0), port_at(5, 1), port_at(1, 2), port_at(4, 0)])?,
+        peers: Vec::from_array(
+            alloc,
+            [port_at(5, 0), port_at(5, 1), port_at(1, 2), port_at(4, 0)],
+        )?,
         ways: Vec::new(alloc),
     });
     parts.push_reserved(Part {

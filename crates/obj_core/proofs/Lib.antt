@@ -1,1 +1,3 @@
 pub mod OutboxLemmas
+pub mod FlowLemmas
+pub mod StepLemmas

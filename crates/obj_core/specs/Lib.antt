@@ -3,6 +3,8 @@ pub mod Handles
 pub mod Events
 pub mod Lines
 pub mod Step
+pub mod Kept
+pub mod May
 pub use Rattle.ev_queue.specs.Handle
 pub use Rattle.ev_queue.specs.PendingList
 pub use Rattle.ev_queue.specs.Queue
@@ -26,3 +28,6 @@ pub use Rattle.gm_model.specs.Uart
 pub use Rattle.gm_model.specs.ExitDevice
 pub use Rattle.gm_model.specs.Timer
 pub use Rattle.gm_model.specs.Stepped
+pub use Rattle.gm_model.specs.Flows
+pub use Rattle.gm_model.specs.Xbar
+pub use Rattle.gm_words.specs.PortUses

@@ -3,6 +3,7 @@ use Rattle.std.specs.Prelude.{◌≡◌}
 use Rattle.ev_queue.specs.Queue.{Queue}
 use Rattle.gm_model.specs.ObjState.{ObjState}
 use Rattle.gm_model.specs.Stepped.{Stepped}
+use Rattle.gm_words.specs.declared.answer.Answer.{Answer}
 use Rattle.gm_words.specs.declared.answer.Answer.TheVariants.{Nothing}
 use Rattle.obj_core.specs.Events.{with_changes}
 use Rattle.obj_core.specs.Out.{Out, extended}
@@ -14,3 +15,10 @@ pub record Takes (r : Stepped) (part part' : ObjState) (q q' : Queue) (o o' : Ou
   pub events : q' ≡ with_changes q part r.changes
   pub out : o' ≡ extended o r.acts r.entries r.next
   pub answer : r.answer ≡ Nothing
+
+-- a call took this step, and answered
+pub record Answers (r : Stepped) (part part' : ObjState) (q q' : Queue) (o o' : Out) (a : Answer) : Type 0 where
+  pub state : part' ≡ r.state
+  pub events : q' ≡ with_changes q part r.changes
+  pub out : o' ≡ extended o r.acts r.entries r.next
+  pub answer : a ≡ r.answer

@@ -5,12 +5,14 @@
 //! as a list. The calls that save and load a part's keys come with the checkpoints.
 #![tactic(auto)]
 
+mod flow;
 mod handles;
 mod item;
 mod line_info;
 mod outbox;
 mod sim_object;
 
+pub use flow::Flow;
 pub use handles::Handles;
 pub use item::Item;
 pub use line_info::LineInfo;

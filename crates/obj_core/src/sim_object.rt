@@ -10,6 +10,7 @@ ghost use Rattle.gm_words.specs.declared.way.Way.TheVariants.{Done};
 ghost use Rattle.obj_core.specs.Handles.{AreHandlesOf, HasHandles};
 ghost use Rattle.obj_core.specs.Events.{with_changes};
 ghost use Rattle.obj_core.specs.Out.{HasRoom, extended};
+ghost use Rattle.obj_core.specs.May.{MayWake};
 ghost use Rattle.obj_core.specs.Lines.{dirty_lines, line_info, line_address, line_bytes};
 
 use crate::handles::Handles;
@@ -22,7 +23,7 @@ use gm_model::{Answer, Kind, Packet, Params, Wake, Way};
 use rv_step::Arch;
 use std::alloc::Global;
 
-/// A part of the machine: a CPU, memory or a device.
+/// A part of the machine: a CPU, a crossbar, memory or a device.
 ///
 /// - A part is configured once, and only that takes memory.
 /// - What a part does at a wake depends on its own state, the next packet number and the tick alone.
@@ -61,6 +62,7 @@ pub trait SimObject: Drop {
     fn wake(&mut self, w: Wake, now: Tick, q: &mut EventQueue, out: &mut Outbox) -> Answer
         requires handles { HasHandles q.old.table (state self.old) }
         requires wake { MayCome w }
+        requires ports { MayWake (state self.old) w }
         requires tick { now ≤ TOP }
         requires room { HasRoom out.old }
         ensures state { state self.new ≡ (object_step (state self.old) out.old.next w now).state }

@@ -11,7 +11,7 @@ ghost use Rattle.rv_step.specs.Flat.{in_exit};
 use gc_base::{NoMemory, Tick};
 use gm_model::platform::EXIT_BASE;
 use gm_model::{Cmd, Kind, Own, Packet, Params};
-use obj_core::Outbox;
+use obj_core::{Flow, Outbox};
 use obj_server::{DEVICE_PLACES, Device, OwnEvent, Served, ServedBy, Start, answer_write, refuse};
 use std::alloc::Global;
 
@@ -98,7 +98,7 @@ impl Device for ExitDevice {
 
     // Functional access and own bytes: it has none.
 
-    fn functional(&self, _p: &mut Packet) {}
+    fn functional(&self, _p: &mut Packet, _queue: &Flow) {}
 
     fn own_bytes(&self, _at: u64, _to: &mut [u8]) -> bool {
         false

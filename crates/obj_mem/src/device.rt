@@ -1,13 +1,13 @@
-// RAM as a device: each request is served at once. This project's own rule.
-// Not modelled: banks, rows and refresh of a real memory, and the queue of the timing mode.
+// RAM as a device: each request takes the same time. This project's own rule.
+// Not modelled: banks, rows and refresh of a real memory.
 ghost use Rattle.std.specs.Prelude.{◌≡◌, refl};
 ghost use Rattle.gm_words.specs.declared.kind.Kind.TheVariants as kinds;
 
 use crate::ram::Ram;
 use gc_base::{NoMemory, Tick};
 use gm_model::{Kind, Own, Packet, Params};
-use obj_core::Outbox;
-use obj_server::{Device, OwnEvent, Served, Start, read_response};
+use obj_core::{Flow, Outbox};
+use obj_server::{Device, OwnEvent, Served, Start};
 use std::alloc::Global;
 
 /// Memory as a part.
@@ -32,7 +32,7 @@ impl Device for Ram {
         };
         Ok(Start {
             latency,
-            places: queue,
+            places: queue as u32,
             device: Ram::zeroed(alloc, params.ram)?,
         })
     }
@@ -49,9 +49,9 @@ impl Device for Ram {
 
     // Functional access and own bytes.
 
-    fn functional(&self, p: &mut Packet) {
-        if self.holds(p.addr, p.size) {
-            read_response(p, self.bytes_at(p.addr, p.size));
+    fn functional(&self, p: &mut Packet, queue: &Flow) {
+        if self.holds(p.addr, p.size) && !queue.read(p) {
+            p.answer(self.bytes_at(p.addr, p.size));
         }
     }
 

@@ -1,8 +1,8 @@
-//! RAM as a part of the machine, which serves a request at once.
+//! RAM as a part of the machine.
 //!
 //! Its promise: `Ram` is the device `Memory` of `gm_model`, so that each call of `Mem` is the rule of its server. What all
 //! servers share is in `obj_server`. Read `specs/Memory.antt` of `gm_model` first.
-//! Only `configure` takes memory: RAM's bytes, zeroed. There is no queue yet, since no rule gives a server an offer.
+//! Only `configure` takes memory: RAM's bytes, zeroed.
 #![tactic(auto)]
 
 mod device;

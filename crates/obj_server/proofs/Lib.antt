@@ -1,1 +1,2 @@
 pub mod NotedBytes
+pub mod Serves

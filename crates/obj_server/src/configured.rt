@@ -1,19 +1,23 @@
 // A server that is configured.
 ghost use Rattle.std.specs.Prelude.{◌≡◌, ◌≤◌, IsTrue};
+ghost use Rattle.gm_words.specs.Allowed.{MayPass, MayCome};
 ghost use Rattle.gm_words.specs.Platform.{slot_classes};
-ghost use Rattle.gm_model.specs.Server.{serve};
+ghost use Rattle.gm_words.specs.declared.wake.Wake.TheVariants as wakes;
+ghost use Rattle.gm_model.specs.Server.{serve, server_step, server_serves};
 ghost use Rattle.gm_words.specs.Slots.{gave_from};
 ghost use Rattle.gm_words.specs.Changes.{changed};
-ghost use Rattle.obj_core.specs.Handles.{handles_of};
+ghost use Rattle.obj_core.specs.Handles.{handles_from};
 ghost use Rattle.obj_core.specs.Out.{HasRoom, extended};
+ghost use Rattle.obj_core.specs.Step.{Takes, Answers};
+ghost use Rattle.obj_server.specs.Server.{server_state, server_of};
 
 use crate::device::Device;
 use crate::own_event::OwnEvent;
-use crate::server::Server;
+use crate::server::{PORT, Server};
 use ev_queue::{EventHandle, EventQueue};
-use gc_base::Tick;
 use gc_base::limits::TOP;
-use gm_model::Packet;
+use gc_base::{SlotNo, Tick};
+use gm_model::{Answer, Entry, Packet, Wake};
 use obj_core::Outbox;
 
 /// A server that is configured, with its device.
@@ -23,13 +27,24 @@ pub(crate) struct Configured<D: Device> {
     pub(crate) device: D,
     // Of slot 0, at which a server serves in the timing mode, and of the device's own slot, if it has one.
     pub(crate) slots: Vec<EventHandle<30>>,
-    ghost own: { slots.items ≡ handles_of server.object.0 D.kind 30 },
+    ghost own: { slots.items ≡ handles_from server.object.0 30 0 (slot_classes D.kind) },
 }
 
-/// The place of the device's own slot.
+/// The slot at which it serves.
+const SERVE_SLOT: u8 = 0;
+
+/// The slot of the device's own event.
+const OWN_SLOT: u8 = 1;
+
+/// The place of the handle of the slot at which it serves.
+const SERVE: usize = 0;
+
+/// The place of the handle of the device's own slot.
 const OWN: usize = 1;
 
 impl<D: Device> Configured<D> {
+    // Requests at once.
+
     /// Serves a request at once.
     #[inline(always)]
     pub(crate) fn serve(&mut self, p: &mut Packet, now: Tick, q: &mut EventQueue, out: &mut Outbox)
@@ -51,6 +66,110 @@ impl<D: Device> Configured<D> {
             OwnEvent::Stays => {}
             OwnEvent::Comes { at } => q.reschedule(&self.slots[OWN], at),
             OwnEvent::Goes => q.deschedule(&self.slots[OWN]),
+        }
+    }
+
+    // Offers.
+
+    /// A request is offered: it is taken where there is a place for it.
+    #[tactic(auto, using(obj_core::proofs::StepLemmas::put_acts))]
+    pub(crate) fn offered(
+        &mut self,
+        p: &Packet,
+        now: Tick,
+        q: &mut EventQueue,
+        out: &mut Outbox,
+    ) -> Answer
+        requires size { MayPass p.now }
+        requires tick { now ≤ TOP }
+        requires room { HasRoom out.old }
+        requires handles { IsTrue (gave_from q.old.table self.old.server.object.0 0 (slot_classes D.kind)) }
+        ensures { let d = D.shown self.old.device in let before = server_state self.old.server d in
+            Answers (server_step before out.old.next (wakes.Offer (record { 0 = 0 }) p.now) now)
+            (server_of self.old.server d) (server_of self.new.server (D.shown self.new.device)) q.old q.new out.old out.new result }
+    {
+        if self.server.queue.has_room() {
+            let at = self.server.served_at(now);
+            self.server.queue.put(p, at, &self.slots[SERVE], q);
+            Answer::Taken
+        } else {
+            self.server.waiter = true;
+            out.note(Entry::Refused {
+                object: self.server.object,
+            });
+            Answer::Refused
+        }
+    }
+
+    // Its event.
+
+    /// The first request is served: its response is offered, or it is gone, where it has none.
+    #[tactic(auto, using(crate::proofs::Serves::few_acts, obj_core::proofs::StepLemmas::ask_changes))]
+    pub(crate) fn serves(&mut self, now: Tick, q: &mut EventQueue, out: &mut Outbox)
+        requires tick { now ≤ TOP }
+        requires room { HasRoom out.old }
+        requires handles { IsTrue (gave_from q.old.table self.old.server.object.0 0 (slot_classes D.kind)) }
+        ensures { let d = D.shown self.old.device in let before = server_state self.old.server d in
+            Takes (server_serves before out.old.next now before.flow.items before.flow.out)
+            (server_of self.old.server d) (server_of self.new.server (D.shown self.new.device)) q.old q.new out.old out.new }
+    {
+        let Some(first) = self.server.queue.first() else {
+            return;
+        };
+        let mut p = *first;
+        let ends = p.is_write_back();
+        self.serve(&mut p, now, q, out);
+        if ends {
+            self.server.remove_first(now, &self.slots[SERVE], q, out);
+        } else {
+            self.server.queue.replace_first(&p);
+            self.server.queue.ask(PORT, out);
+        }
+    }
+
+    // Wakes.
+
+    /// Its step rule.
+    #[tactic(auto, using(obj_core::proofs::StepLemmas::hold_acts, obj_core::proofs::StepLemmas::hold_changes, obj_core::proofs::StepLemmas::again_changes))]
+    pub(crate) fn wake(
+        &mut self,
+        w: &Wake,
+        now: Tick,
+        q: &mut EventQueue,
+        out: &mut Outbox,
+    ) -> Answer
+        requires wake { MayCome w.now }
+        requires tick { now ≤ TOP }
+        requires room { HasRoom out.old }
+        requires handles { IsTrue (gave_from q.old.table self.old.server.object.0 0 (slot_classes D.kind)) }
+        ensures { let d = D.shown self.old.device in
+            Answers (server_step (server_state self.old.server d) out.old.next w.now now)
+            (server_of self.old.server d) (server_of self.new.server (D.shown self.new.device)) q.old q.new out.old out.new result }
+    {
+        match w {
+            Wake::Event { slot } => self.event(*slot, now, q, out),
+            Wake::Offer { pkt, .. } => return self.offered(pkt, now, q, out),
+            Wake::Taken { .. } => self.server.remove_first(now, &self.slots[SERVE], q, out),
+            Wake::Refused { .. } => self.server.queue.hold(),
+            Wake::Retry { .. } => self.server.queue.ask_again(PORT, out),
+            Wake::Line { .. } | Wake::AtomicDone { .. } => {}
+        }
+        Answer::Nothing
+    }
+
+    /// The event of one of its slots is served.
+    fn event(&mut self, slot: SlotNo, now: Tick, q: &mut EventQueue, out: &mut Outbox)
+        requires tick { now ≤ TOP }
+        requires room { HasRoom out.old }
+        requires handles { IsTrue (gave_from q.old.table self.old.server.object.0 0 (slot_classes D.kind)) }
+        ensures { let d = D.shown self.old.device in
+            Takes (server_step (server_state self.old.server d) out.old.next (wakes.Event slot) now)
+            (server_of self.old.server d) (server_of self.new.server (D.shown self.new.device)) q.old q.new out.old out.new }
+    {
+        match slot.0 {
+            SERVE_SLOT => self.serves(now, q, out),
+            OWN_SLOT => self.device.event(out),
+            _ => {}
         }
     }
 }

@@ -1,5 +1,6 @@
 // What serves a server's requests.
 ghost use Rattle.std.specs.Prelude.{◌≡◌, ◌+◌, ◌≤◌, [], length, take, drop, is_some, if◌then◌else◌, IfOk, IfSome, MatchOption};
+ghost use Rattle.gc_base.specs.declared.limits.TheConstants.{LATENCY_MAX};
 ghost use Rattle.gm_words.specs.Allowed.{IsAllowed};
 ghost use Rattle.gm_words.specs.Kind.{kind_of_own};
 ghost use Rattle.gm_model.specs.ObjState.{device_kind};
@@ -12,11 +13,11 @@ use crate::own_event::OwnEvent;
 use gc_base::limits::TOP;
 use gc_base::{NoMemory, Tick};
 use gm_model::{Kind, Packet, Params};
-use obj_core::Outbox;
+use obj_core::{Flow, Outbox};
 use std::alloc::Global;
 
 /// How many requests the queue of a device has a place for. A memory's number is configured.
-pub const DEVICE_PLACES: u64 = 1;
+pub const DEVICE_PLACES: u32 = 1;
 
 /// A device at its start, and how it is served.
 #[derive(Drop)]
@@ -24,7 +25,7 @@ pub struct Start<D: Drop> {
     /// How long a request takes, in ticks.
     pub latency: u64,
     /// How many requests the queue has a place for.
-    pub places: u64,
+    pub places: u32,
     pub device: D,
 }
 
@@ -52,7 +53,8 @@ pub trait Device: Drop {
     fn start(alloc: Global, params: &Params) -> Result<Start<Self>, NoMemory>
         requires kind { kind_of_own params.now.own ≡ kind }
         requires allowed { IsAllowed params.now }
-        ensures { IfOk result (λ s. server_start params.now s.latency s.places (shown s.device) ≡ start_of params.now params.now.own) };
+        ensures state { IfOk result (λ s. server_start params.now s.latency s.places (shown s.device) ≡ start_of params.now params.now.own) }
+        ensures latency { IfOk result (λ s. s.latency ≤ LATENCY_MAX) };
 
     /// Serves a request: it becomes the response. It answers what becomes of the device's own event.
     fn serve(&mut self, p: &mut Packet, now: Tick, out: &mut Outbox) -> OwnEvent
@@ -71,10 +73,10 @@ pub trait Device: Drop {
         ensures device { shown self.new ≡ device_after_event (shown self.old) }
         ensures out { out.new ≡ extended out.old (event_acts (shown self.old)) [] out.old.next };
 
-    /// Answers a read without time, if it keeps the bytes.
-    fn functional(&self, p: &mut Packet)
+    /// Answers a read without time, if it keeps the bytes: a write-back in the queue is newer than what it keeps.
+    fn functional(&self, p: &mut Packet, queue: &Flow)
         requires { p.old.size ≤ 64 }
-        ensures { ReadsAtOnce (shown self.now) p.old p.new };
+        ensures { ReadsAtOnce (shown self.now) queue.now.flow.items p.old p.new };
 
     /// Reads the bytes that it keeps, from a place on; false if it keeps none.
     fn own_bytes(&self, at: u64, to: &mut [u8]) -> bool

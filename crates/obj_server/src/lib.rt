@@ -2,7 +2,7 @@
 //!
 //! Its promise: each call of a `Served` part is the rule of a server in `gm_model`, on the state that it shows, if its `Device`
 //! keeps the device's rule. Read `specs/Device.antt` and `src/device.rt` first: a kind of server is made by an `impl Device`
-//! and nothing else. Left out is the queue of offers, whose place is `Server`.
+//! and nothing else. The queue of offers is `Server`'s, and only `configure` takes memory.
 #![tactic(auto)]
 
 mod configured;
@@ -16,6 +16,6 @@ mod server;
 
 pub use device::{DEVICE_PLACES, Device, Start};
 pub use own_event::OwnEvent;
-pub use reply::{answer_read, answer_write, read_response, refuse};
+pub use reply::{answer_read, answer_write, refuse};
 pub use served::Served;
 pub use served_by::ServedBy;

@@ -1,19 +1,15 @@
-// A part that serves requests, whichever device serves them: each is served at once, and takes the same latency.
-// This project's own rule. Not modelled yet: the queue of the timing mode.
+// A part that serves requests, whichever device serves them: each takes the same latency. This project's own rule.
 ghost use Rattle.std.specs.Prelude.{◌≡◌};
 
 use crate::configured::Configured;
 use crate::device::{Device, Start};
 use crate::server::Server;
 use ev_queue::EventQueue;
-use gc_base::{NoMemory, SlotNo, Tick};
+use gc_base::{NoMemory, Tick};
 use gm_model::{Answer, Kind, Packet, Params, Wake, Way};
 use obj_core::{Handles, LineInfo, Outbox, SimObject};
 use rv_step::Arch;
 use std::alloc::Global;
-
-/// The slot of the device's own event.
-const OWN_EVENT: SlotNo = SlotNo(1);
 
 /// A server of a device. A request that isn't the device's is refused by fault.
 #[derive(Drop)]
@@ -57,7 +53,7 @@ impl<D: Device> SimObject for Served<D> {
             device,
         } = D::start(alloc, params)?;
         self.inner = Some(Configured {
-            server: Server::start(params, latency, places),
+            server: Server::start(alloc, params, latency, places)?,
             device,
             slots: handles.device,
         });
@@ -67,13 +63,11 @@ impl<D: Device> SimObject for Served<D> {
     // Requests, responses and own events.
 
     #[tactic(auto, unfolding(gm_model::specs::ObjectStep::object_step))]
-    fn wake(&mut self, w: Wake, _now: Tick, _q: &mut EventQueue, out: &mut Outbox) -> Answer {
-        if let (Some(c), Wake::Event { slot }) = (&mut self.inner, &w) {
-            if *slot == OWN_EVENT {
-                c.device.event(out);
-            }
+    fn wake(&mut self, w: Wake, now: Tick, q: &mut EventQueue, out: &mut Outbox) -> Answer {
+        match &mut self.inner {
+            Some(c) => c.wake(&w, now, q, out),
+            None => Answer::Nothing,
         }
-        Answer::Nothing
     }
 
     // Atomic access.
@@ -96,7 +90,7 @@ impl<D: Device> SimObject for Served<D> {
     #[tactic(auto, unfolding(gm_model::specs::ObjectStep::functional_step))]
     fn functional(&self, p: &mut Packet) -> Way {
         if let Some(c) = &self.inner {
-            c.device.functional(p);
+            c.device.functional(p, &c.server.queue);
         }
         Way::Done { latency: 0 }
     }
@@ -130,7 +124,10 @@ impl<D: Device> SimObject for Served<D> {
     }
 
     fn drained(&self) -> bool {
-        true
+        match &self.inner {
+            Some(c) => c.server.is_drained(),
+            None => true,
+        }
     }
 
     fn resume(&mut self, _now: Tick, _q: &mut EventQueue) {

@@ -1,10 +1,23 @@
-// What a server is beside its device.
-ghost use Rattle.std.specs.Prelude.{◌≡◌, true, false};
+// A server without its device: its queue of requests, and who waits for a place in it.
+ghost use Rattle.std.specs.Prelude.{◌≡◌, ◌+◌, ◌<◌, ◌≤◌, ◌==◌, ◌&&◌, not, [], length, IsTrue, IfOk, true, false};
+ghost use Rattle.ev_queue.specs.SlotTable.{gave};
+ghost use Rattle.gc_base.specs.declared.limits.TheConstants.{LATENCY_MAX};
+ghost use Rattle.gm_words.specs.Changes.{changed};
+ghost use Rattle.gm_model.specs.Flows.{is_some_port};
+ghost use Rattle.obj_core.specs.Out.{extended};
+ghost use Rattle.obj_server.specs.Server.{gone_first, called};
 
-use gc_base::ObjId;
-use gm_model::Params;
+use ev_queue::{EventHandle, EventQueue};
+use gc_base::limits::TOP;
+use gc_base::{NoMemory, ObjId, PortNo, Tick};
+use gm_model::{Act, Params};
+use obj_core::{Flow, Outbox};
+use std::alloc::Global;
 
-/// What a server is beside its device: what it was configured with, its mode, and whether it is draining.
+/// A server's one port.
+pub(crate) const PORT: PortNo = PortNo(0);
+
+/// A server without its device: what it was configured with, its mode, whether it is draining, and its queue.
 #[derive(Drop)]
 pub(crate) struct Server {
     pub(crate) object: ObjId,
@@ -16,8 +29,11 @@ pub(crate) struct Server {
     pub(crate) draining: bool,
     /// How long a request takes, in ticks.
     pub(crate) latency: u64,
-    /// How many requests its queue has a place for.
-    pub(crate) places: u64,
+    /// The requests, of which the first is served first, and becomes the response that is offered.
+    pub(crate) queue: Flow,
+    /// Whether a requestor that was refused waits for a place.
+    pub(crate) waiter: bool,
+    ghost short: { latency ≤ LATENCY_MAX },
 }
 
 impl Server {
@@ -28,19 +44,26 @@ impl Server {
     // Set-up.
 
     /// A server at its start: in atomic mode, draining, and with nothing in its queue.
-    pub(crate) fn start(params: &Params, latency: u64, places: u64) -> Server
-        ensures object { result.object ≡ params.now.object }
-        ensures state { (d : Device) → server_of result d ≡ server_start params.now latency places d }
+    pub(crate) fn start(
+        alloc: Global,
+        params: &Params,
+        latency: u64,
+        places: u32,
+    ) -> Result<Server, NoMemory>
+        requires { latency ≤ LATENCY_MAX }
+        ensures object { IfOk result (λ s. s.object ≡ params.now.object) }
+        ensures state { IfOk result (λ s. (d : Device) → server_of s d ≡ server_start params.now latency places d) }
     {
-        Server {
+        Ok(Server {
             object: params.object,
             line: params.line,
             ram: params.ram,
             timing: false,
             draining: true,
             latency,
-            places,
-        }
+            queue: Flow::new(alloc, places)?,
+            waiter: false,
+        })
     }
 
     // Mode, drain and resume.
@@ -64,5 +87,63 @@ impl Server {
         ensures { self.new ≡ record self.old { draining = false } }
     {
         self.draining = false;
+    }
+
+    /// Whether nothing is in its queue, and nobody waits.
+    pub(crate) fn is_drained(&self) -> bool
+        ensures { result ≡ (length self.now.queue.flow.items == 0) && not self.now.waiter }
+    {
+        self.queue.is_empty() && !self.waiter
+    }
+
+    /// The tick at which a request is served that begins now.
+    #[inline(always)]
+    pub(crate) fn served_at(&self, now: Tick) -> Tick
+        requires { now ≤ TOP }
+        ensures { result ≡ now + self.now.latency }
+    {
+        match now.after(self.latency) {
+            Ok(tick) => tick,
+            Err(_) => now,
+        }
+    }
+
+    // Its queue.
+
+    /// The first request is gone, and the next is served a latency later. Who waits for a place is called.
+    #[tactic(auto, using(obj_core::proofs::StepLemmas::gone_acts, obj_core::proofs::StepLemmas::opened_flow, obj_core::proofs::StepLemmas::opened_changes, obj_core::proofs::StepLemmas::opened_waiting, obj_core::proofs::StepLemmas::opened_acts))]
+    pub(crate) fn remove_first(
+        &mut self,
+        now: Tick,
+        event: &EventHandle<30>,
+        q: &mut EventQueue,
+        out: &mut Outbox,
+    )
+        requires tick { now ≤ TOP }
+        requires room { length out.old.items < 272 }
+        requires owner { event.now.owner ≡ self.old.object.0 }
+        requires slot { event.now.slot ≡ 0 }
+        requires known { IsTrue (gave q.old.table self.old.object.0 0 30) }
+        ensures server { self.new ≡ record self.old {
+          queue = record self.old.queue { flow = (gone_first self.old now).lane.flow };
+          waiter = is_some_port (gone_first self.old now).lane.waiting;
+        } }
+        ensures events { q.new ≡ record q.old { pending = changed self.old.object.0 q.old.pending (gone_first self.old now).changes } }
+        ensures out { out.new ≡ extended out.old (gone_first self.old now).acts [] out.old.next }
+    {
+        self.queue.drop_first(self.served_at(now), event, q);
+        self.call_waiter(out);
+    }
+
+    /// Calls who waits, where there is a place.
+    fn call_waiter(&mut self, out: &mut Outbox)
+        requires { length out.old.items < 272 }
+        ensures server { self.new ≡ record self.old { waiter = is_some_port (called self.old).lane.waiting } }
+        ensures out { out.new ≡ extended out.old (called self.old).acts [] out.old.next }
+    {
+        if self.waiter && self.queue.has_room() {
+            self.waiter = false;
+            out.push(Act::CallRetry { port: PORT });
+        }
     }
 }

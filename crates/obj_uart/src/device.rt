@@ -9,7 +9,7 @@ ghost use Rattle.gm_words.specs.declared.kind.Kind.TheVariants as kinds;
 use gc_base::limits::UART_INPUT_MAX;
 use gc_base::{NoMemory, Tick};
 use gm_model::{Cmd, Kind, Own, Packet, Params};
-use obj_core::Outbox;
+use obj_core::{Flow, Outbox};
 use obj_server::{DEVICE_PLACES, Device, OwnEvent, Served, Start};
 use std::alloc::Global;
 use std::collections::VecDeque;
@@ -78,7 +78,7 @@ impl Device for UartDevice {
 
     // Functional access and own bytes: it has none.
 
-    fn functional(&self, _p: &mut Packet) {}
+    fn functional(&self, _p: &mut Packet, _queue: &Flow) {}
 
     fn own_bytes(&self, _at: u64, _to: &mut [u8]) -> bool {
         false

@@ -1,0 +1,5 @@
+pub mod Waiting
+pub mod Lane
+pub mod Ports
+pub mod Shown
+pub mod Side

@@ -1,0 +1,9 @@
+//! Packets in a pool: each is kept under a key that the pool picks, until it is taken out.
+//!
+//! Its promise: a key gives the packet that was put under it, and a put or a take changes no other key. Read `specs/Pooled.antt`
+//! first. Only `Pool::new` takes memory. Who queues packets owns a pool, and keeps the keys in the order of the queue.
+#![tactic(auto)]
+
+mod pool;
+
+pub use pool::Pool;
