@@ -50,12 +50,17 @@ module _ (slots : List ℕ) (now : ℕ) where
 
   queued-push : (x : Queued) (xs : List Queued) → All MayPass (queued_packets xs) → MayPass x.packet → All MayPass (queued_packets (xs ++ x ∷ []))
   queued-push x [] h p = All-cons MayPass x.packet [] p (All-nil MayPass)
-  queued-push x (y ∷ ys) h p = All-cons MayPass y.packet (queued_packets (ys ++ x ∷ [])) (All-head MayPass y.packet (queued_packets ys) h) (queued-push x ys (All-tail MayPass y.packet (queued_packets ys) h) p)
+  queued-push x (y ∷ ys) h p =
+      All-cons MayPass y.packet (queued_packets (ys ++ x ∷ [])) (All-head MayPass y.packet (queued_packets ys) h)
+      (queued-push x ys (All-tail MayPass y.packet (queued_packets ys) h) p)
 
-  pub put_modest : (o : Outlet) (x : Packet) (ready : ℕ) (items : List Queued) (out : OutState) → slice_get slots o.slot ≡ Some o.class → now ≤ ready → ready ≤ latest now → MayPass x → All MayPass (queued_packets items)
+  pub put_modest : (o : Outlet) (x : Packet) (ready : ℕ) (items : List Queued) (out : OutState) → slice_get slots o.slot ≡ Some o.class → now ≤ ready
+      → ready ≤ latest now → MayPass x → All MayPass (queued_packets items)
       → IsMovedModest slots now (put_in o x ready items out)
   put_modest o x ready [] out s l m p h = record { own = (s, tt); timely = (l, m, tt); fit = tt; silent = refl; held = All-cons MayPass x [] p h }
-  put_modest o x ready (y ∷ ys) out s l m p h = still_moved (record { items = (y ∷ ys) ++ record { packet = x; ready = ready } ∷ []; out = out }) (queued-push (record { packet = x; ready = ready }) (y ∷ ys) h p)
+  put_modest o x ready (y ∷ ys) out s l m p h =
+      still_moved (record { items = (y ∷ ys) ++ record { packet = x; ready = ready } ∷ []; out = out })
+      (queued-push (record { packet = x; ready = ready }) (y ∷ ys) h p)
 
   pub ask_modest : (p : ℕ) (items : List Queued) (out : OutState) → All MayPass (queued_packets items) → IsMovedModest slots now (ask_in p items out)
   ask_modest p [] out h = still_moved (record { items = []; out = out }) h
@@ -77,12 +82,14 @@ module _ (slots : List ℕ) (now : ℕ) where
   again_modest p (x ∷ xs) Due h = still_moved (record { items = x ∷ xs; out = Due }) h
   again_modest p (x ∷ xs) Asked h = still_moved (record { items = x ∷ xs; out = Asked }) h
 
-  pub gone_modest : (o : Outlet) (at : ℕ) (items : List Queued) → slice_get slots o.slot ≡ Some o.class → now ≤ at → at ≤ latest now → All MayPass (queued_packets items) → IsMovedModest slots now (gone_in o at items)
+  pub gone_modest : (o : Outlet) (at : ℕ) (items : List Queued) → slice_get slots o.slot ≡ Some o.class → now ≤ at → at ≤ latest now
+      → All MayPass (queued_packets items) → IsMovedModest slots now (gone_in o at items)
   gone_modest o at [] s l m h = still_moved (record { items = []; out = Quiet }) h
   gone_modest o at (x ∷ []) s l m h = still_moved (record { items = []; out = Quiet }) (All-nil MayPass)
   gone_modest o at (x ∷ y ∷ ys) s l m h = record { own = (s, tt); timely = (l, m, tt); fit = tt; silent = refl; held = All-tail MayPass x.packet (queued_packets (y ∷ ys)) h }
 
-  pub next_modest : (o : Outlet) (x : Packet) (at : ℕ) → slice_get slots o.slot ≡ Some o.class → now ≤ at → at ≤ latest now → MayPass x → IsMovedModest slots now (next_in o x at)
+  pub next_modest : (o : Outlet) (x : Packet) (at : ℕ) → slice_get slots o.slot ≡ Some o.class → now ≤ at → at ≤ latest now → MayPass x
+      → IsMovedModest slots now (next_in o x at)
   next_modest o x at s l m p = record { own = (s, tt); timely = (l, m, tt); fit = tt; silent = refl; held = All-cons MayPass x [] p (All-nil MayPass) }
 
   pub moved_modest : (l : Lane) (m : Moved) → IsMovedModest slots now m → IsLaneModest slots now (moved l m)
@@ -93,7 +100,8 @@ module _ (slots : List ℕ) (now : ℕ) where
   open_modest true m [] h = record { own = h.own; timely = h.timely; fit = h.fit; silent = h.silent; held = h.held }
   open_modest true m (q ∷ qs) h = record { own = h.own; timely = h.timely; fit = (tt, h.fit); silent = omega (arith, h.silent); held = h.held }
 
-  pub taken_modest : (o : Outlet) (l : Lane) (q : ℕ) (x : Packet) (ready : ℕ) (room : Bool) → slice_get slots o.slot ≡ Some o.class → now ≤ ready → ready ≤ latest now → MayPass x → All MayPass (queued_packets l.flow.items)
+  pub taken_modest : (o : Outlet) (l : Lane) (q : ℕ) (x : Packet) (ready : ℕ) (room : Bool) → slice_get slots o.slot ≡ Some o.class → now ≤ ready
+      → ready ≤ latest now → MayPass x → All MayPass (queued_packets l.flow.items)
       → IsLaneModest slots now (taken_in o l q x ready room)
   taken_modest o l q x ready true s b m p h = moved_modest l (put_in o x ready l.flow.items l.flow.out) (put_modest o x ready l.flow.items l.flow.out s b m p h)
   taken_modest o l q x ready false s b m p h = record { own = tt; timely = tt; fit = tt; silent = refl; held = h }

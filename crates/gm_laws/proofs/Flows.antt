@@ -314,14 +314,16 @@ no_pass f (acts.SetLine b l ∷ rest) e = (tt, no_pass f rest e)
 no_pass f (acts.Atomic p x ∷ rest) e = cc
 
 -- the weight of what is queued
-pub put_weigh : (f : Packet → ℕ) (o : Outlet) (y : Packet) (at : ℕ) (items : List Queued) (out : OutState) → weigh f (queued_packets (put_in o y at items out).flow.items) ≡ weigh f (queued_packets items) + f y
+pub put_weigh : (f : Packet → ℕ) (o : Outlet) (y : Packet) (at : ℕ) (items : List Queued) (out : OutState)
+    → weigh f (queued_packets (put_in o y at items out).flow.items) ≡ weigh f (queued_packets items) + f y
 put_weigh f o y at [] out = omega arith
 put_weigh f o y at (z ∷ zs) out = more (z ∷ zs) where
   more : (ys : List Queued) → weigh f (queued_packets (ys ++ record { packet = y; ready = at } ∷ [])) ≡ weigh f (queued_packets ys) + f y
   more [] = omega arith
   more (x ∷ xs) = omega (arith, more xs)
 
-pub gone_weigh : (f : Packet → ℕ) (o : Outlet) (at : ℕ) (items : List Queued) → weigh f (queued_packets (gone_in o at items).flow.items) + head_weight f (head_of items) ≡ weigh f (queued_packets items)
+pub gone_weigh : (f : Packet → ℕ) (o : Outlet) (at : ℕ) (items : List Queued)
+    → weigh f (queued_packets (gone_in o at items).flow.items) + head_weight f (head_of items) ≡ weigh f (queued_packets items)
 gone_weigh f o at [] = refl
 gone_weigh f o at (x ∷ []) = omega arith
 gone_weigh f o at (x ∷ y ∷ ys) = omega arith

@@ -22,7 +22,8 @@ use Rattle.gm_laws.proofs.Counts.{only_same, only_self, only_other, rejected_pkt
 use Rattle.gm_laws.proofs.Flows.{FlowLaw, IsCalm, put_law, still_law, mute_offer}
 
 -- the law of one step of a lane
-pub record LaneLaw (eager : Lane → Bool) (o : Outlet) (a : Lane) (w : Wake) (b : Lane) (answer : Answer) (acts : List Act) (changes : List Change) : Type 0 where
+pub record LaneLaw (eager : Lane → Bool) (o : Outlet) (a : Lane) (w : Wake) (b : Lane) (answer : Answer) (acts : List Act)
+    (changes : List Change) : Type 0 where
   pub flow : FlowLaw o a.flow w b.flow acts changes
   pub listed : (q : ℕ) → stood q b.waiting + calls q acts ≡ stood q a.waiting + rejected w answer q
   pub feeds : (q : ℕ) (x : Packet) → w ≡ wakes.Offer (record { 0 = q }) x → eager b ≡ false
@@ -49,7 +50,8 @@ pub record IsPortSame (f g : Face) : Type 0 where
   pub passes : (p : ℕ) → g.passes p ≡ f.passes p
 
 -- a wake that says nothing to the ports, and changes nothing of them
-pub stays_law : (f g : Face) (w : Wake) (answer : Answer) → FaceOk g → IsPortSame f g → ((p : ℕ) → (told w p ≡ 0) × (refused w p ≡ 0) × (retry w p ≡ 0) × (rejected w answer p ≡ 0))
+pub stays_law : (f g : Face) (w : Wake) (answer : Answer) → FaceOk g → IsPortSame f g
+    → ((p : ℕ) → (told w p ≡ 0) × (refused w p ≡ 0) × (retry w p ≡ 0) × (rejected w answer p ≡ 0))
     → ((q : ℕ) (x : Packet) → w ≡ wakes.Offer (record { 0 = q }) x → f.hungry (f.route x) ≡ false) → Law f w g answer []
 stays_law f g w answer ok e none feeds =
     record {
@@ -89,7 +91,8 @@ has_head [] Asked v h = absurd v
 has_head [] Waits v h = absurd v
 
 -- a step of the flow alone
-pub moved_law : (places : ℕ) (o : Outlet) (l : Lane) (w : Wake) (m : Moved) → FlowLaw o l.flow w m.flow m.acts m.changes → IsCalm l.flow.items m → ((q : ℕ) → shown w q ≡ 0)
+pub moved_law : (places : ℕ) (o : Outlet) (l : Lane) (w : Wake) (m : Moved) → FlowLaw o l.flow w m.flow m.acts m.changes → IsCalm l.flow.items m
+    → ((q : ℕ) → shown w q ≡ 0)
     → LaneLaw (is_hungry places) o l w (moved l m).lane answers.Nothing (moved l m).acts (moved l m).changes
 moved_law places o l w m law calm quiet =
     record {
@@ -164,7 +167,8 @@ opened_flow m false xs = refl
 opened_flow m true [] = refl
 opened_flow m true (x ∷ xs) = refl
 
-pub opened_passed : (m : Moved) (room : Bool) (xs : List ℕ) → m.acts ≡ [] → (passed_packets (open_in room m xs).acts ≡ []) × AllActsOk (open_in room m xs).acts × (weight (open_in room m xs).acts ≤ 2) × ((p : ℕ) → offers p (open_in room m xs).acts ≡ 0)
+pub opened_passed : (m : Moved) (room : Bool) (xs : List ℕ) → m.acts ≡ []
+    → (passed_packets (open_in room m xs).acts ≡ []) × AllActsOk (open_in room m xs).acts × (weight (open_in room m xs).acts ≤ 2) × ((p : ℕ) → offers p (open_in room m xs).acts ≡ 0)
 opened_passed m false xs e = (ap passed_packets e, subst AllActsOk (sym e) tt, omega (arith, ap weight e), λ p. ap (offers p) e)
 opened_passed m true [] e = (ap passed_packets e, subst AllActsOk (sym e) tt, omega (arith, ap weight e), λ p. ap (offers p) e)
 opened_passed m true (x ∷ xs) e = (ap passed_packets e, (tt, subst AllActsOk (sym e) tt), omega (arith, ap weight e), λ p. omega (arith, ap (offers p) e))
@@ -214,12 +218,14 @@ offer_law places o q l x y ready ok full fresh = by (has_room places l) refl whe
 
 -- what is offered may be sent, and is held
 pub record AreSent (t : Face) (lanes : List Lane) : Type 0 where
-  pub sends : (p : ℕ) (x : Packet) → 1 ≤ asked_bit (lane_at lanes p).flow.out + waits_bit (lane_at lanes p).flow.out → head_of (lane_at lanes p).flow.items ≡ Some x → t.sends p x ≡ true
+  pub sends : (p : ℕ) (x : Packet) → 1 ≤ asked_bit (lane_at lanes p).flow.out + waits_bit (lane_at lanes p).flow.out
+      → head_of (lane_at lanes p).flow.items ≡ Some x → t.sends p x ≡ true
   pub holds : (p : ℕ) (x : Packet) → head_of (lane_at lanes p).flow.items ≡ Some x → (h : Packet → ℕ) → h x ≤ weigh h t.packets
   pub timed : t.instant ≡ false
 
 -- the face of lanes that are flows
-pub lanes_ok : (t : Face) (eager : Lane → Bool) (lanes : List Lane) (route : Packet → ℕ) → ((p : ℕ) → IsLane (lane_at lanes p)) → AreSent t lanes → FaceOk (lanes_face t eager lanes route)
+pub lanes_ok : (t : Face) (eager : Lane → Bool) (lanes : List Lane) (route : Packet → ℕ) → ((p : ℕ) → IsLane (lane_at lanes p)) → AreSent t lanes
+    → FaceOk (lanes_face t eager lanes route)
 lanes_ok t eager lanes route ok sent =
     record {
       bits = λ p. asked_is (lane_at lanes p).flow.items (lane_at lanes p).flow.out (ok p);
@@ -229,7 +235,8 @@ lanes_ok t eager lanes route ok sent =
       holds = λ p x h e. sent.holds p x e;
       portless = λ e. absurd (cc (e, sent.timed));
     } where
-      by : (p : ℕ) → 1 ≤ asked_bit (lane_at lanes p).flow.out + waits_bit (lane_at lanes p).flow.out → (p < length lanes) ⊎ (length lanes ≤ p) → p < length lanes
+      by : (p : ℕ) → 1 ≤ asked_bit (lane_at lanes p).flow.out + waits_bit (lane_at lanes p).flow.out → (p < length lanes) ⊎ (length lanes ≤ p)
+          → p < length lanes
       by p h (inl b) = b
       by p h (inr b) =
           let none : lane_at lanes p ≡ empty_lane = get_or_past lanes p empty_lane b in
@@ -250,7 +257,8 @@ module _ (eager : Lane → Bool) (lanes : List Lane) (o : Outlet) (b : Lane) (w 
   lane_other q n = get_or-set_other lanes o.port q b empty_lane (λ e. n (sym e))
 
   -- what holds of the lane that moved, and of the others, holds of each
-  pub each : (P : ℕ → Lane → Lane → Type 0) → P o.port (lane_at lanes o.port) b → ((q : ℕ) → (o.port ≡ q → ⊥) → P q (lane_at lanes q) (lane_at lanes q)) → (q : ℕ)
+  pub each : (P : ℕ → Lane → Lane → Type 0) → P o.port (lane_at lanes o.port) b → ((q : ℕ) → (o.port ≡ q → ⊥) → P q (lane_at lanes q) (lane_at lanes q))
+      → (q : ℕ)
       → P q (lane_at lanes q) (lane_at (set lanes o.port b) q)
   each P mine other q = by (cases_eq o.port q) where
     by : (o.port ≡ q) ⊎ (o.port ≡ q → ⊥) → P q (lane_at lanes q) (lane_at (set lanes o.port b) q)
@@ -260,7 +268,8 @@ module _ (eager : Lane → Bool) (lanes : List Lane) (o : Outlet) (b : Lane) (w 
   pub lanes_keep : (q : ℕ) → IsLane (lane_at (set lanes o.port b) q)
   lanes_keep = each (λ q a c. IsLane c) law.flow.ok (λ q n. ok q)
 
-  pub lanes_law : (t u : Face) (route to : Packet → ℕ) → IsAt w o.port → ((q : ℕ) (x : Packet) → w ≡ wakes.Offer (record { 0 = q }) x → route x ≡ o.port) → ((x : Packet) → to x ≡ route x)
+  pub lanes_law : (t u : Face) (route to : Packet → ℕ) → IsAt w o.port → ((q : ℕ) (x : Packet) → w ≡ wakes.Offer (record { 0 = q }) x → route x ≡ o.port)
+      → ((x : Packet) → to x ≡ route x)
       → ((p : ℕ) (x : Packet) → u.sends p x ≡ t.sends p x) → ((p : ℕ) (x : Packet) → u.admits p x ≡ t.admits p x) → ((p : ℕ) → u.passes p ≡ t.passes p)
       → AreSent u (set lanes o.port b) → Law (lanes_face t eager lanes route) w (lanes_face u eager (set lanes o.port b) to) answer acts
   lanes_law t u route to at routes same sends admits passes sent =
@@ -289,24 +298,29 @@ module _ (eager : Lane → Bool) (lanes : List Lane) (o : Outlet) (b : Lane) (w 
         feeds = λ q x e. subst (λ r. eager (lane_at (set lanes o.port b) r) ≡ false) (sym (routes q x e)) (ap eager lane_same ∙ law.feeds q x e);
         hungry = λ l. hungry l;
       } where
-        joins : (l q : ℕ) → 1 ≤ stood q (lane_at (set lanes o.port b) l).waiting → (1 ≤ stood q (lane_at lanes l).waiting) ⊎ Joins (lanes_face t eager lanes route) w answer l q
-        joins l q = each (λ k a c. 1 ≤ stood q c.waiting → (1 ≤ stood q a.waiting) ⊎ Joins (lanes_face t eager lanes route) w answer k q) mine (λ k n h. inl h) l where
-          mine : 1 ≤ stood q b.waiting → (1 ≤ stood q (lane_at lanes o.port).waiting) ⊎ Joins (lanes_face t eager lanes route) w answer o.port q
-          mine h = by (cases_lt 0 (stood q (lane_at lanes o.port).waiting)) where
-            by : (0 < stood q (lane_at lanes o.port).waiting) ⊎ (stood q (lane_at lanes o.port).waiting ≤ 0) → (1 ≤ stood q (lane_at lanes o.port).waiting) ⊎ Joins (lanes_face t eager lanes route) w answer o.port q
-            by (inl h) = inl h
-            by (inr z) =
-                let turned : 1 ≤ rejected w answer q = omega (arith, law.listed q) in
-                let r = rejected_pkt w answer q turned in
-                inr (record { pkt = r.0; offer = r.1; there = routes q r.0 r.1; turned = turned })
+        joins : (l q : ℕ) → 1 ≤ stood q (lane_at (set lanes o.port b) l).waiting
+            → (1 ≤ stood q (lane_at lanes l).waiting) ⊎ Joins (lanes_face t eager lanes route) w answer l q
+        joins l q =
+            each (λ k a c. 1 ≤ stood q c.waiting → (1 ≤ stood q a.waiting) ⊎ Joins (lanes_face t eager lanes route) w answer k q) mine (λ k n h. inl h) l where
+              mine : 1 ≤ stood q b.waiting → (1 ≤ stood q (lane_at lanes o.port).waiting) ⊎ Joins (lanes_face t eager lanes route) w answer o.port q
+              mine h = by (cases_lt 0 (stood q (lane_at lanes o.port).waiting)) where
+                by : (0 < stood q (lane_at lanes o.port).waiting) ⊎ (stood q (lane_at lanes o.port).waiting ≤ 0)
+                    → (1 ≤ stood q (lane_at lanes o.port).waiting) ⊎ Joins (lanes_face t eager lanes route) w answer o.port q
+                by (inl h) = inl h
+                by (inr z) =
+                    let turned : 1 ≤ rejected w answer q = omega (arith, law.listed q) in
+                    let r = rejected_pkt w answer q turned in
+                    inr (record { pkt = r.0; offer = r.1; there = routes q r.0 r.1; turned = turned })
 
         hungry : (l : ℕ) → eager (lane_at (set lanes o.port b) l) ≡ true
             → (eager (lane_at lanes l) ≡ true) ⊎ CallsOne (lanes_face t eager lanes route) acts l
-        hungry = each (λ k a c. eager c ≡ true → (eager a ≡ true) ⊎ CallsOne (lanes_face t eager lanes route) acts k) (λ h. mine (law.hungry h)) (λ k n h. inl h) where
-          mine : (eager (lane_at lanes o.port) ≡ true) ⊎ ((q : ℕ) × (1 ≤ stood q (lane_at lanes o.port).waiting) × (1 ≤ calls q acts))
-              → (eager (lane_at lanes o.port) ≡ true) ⊎ CallsOne (lanes_face t eager lanes route) acts o.port
-          mine (inl h) = inl h
-          mine (inr r) = inr (record { port = r.0; stood = r.1; called = r.2 })
+        hungry =
+            each (λ k a c. eager c ≡ true → (eager a ≡ true) ⊎ CallsOne (lanes_face t eager lanes route) acts k) (λ h. mine (law.hungry h))
+            (λ k n h. inl h) where
+              mine : (eager (lane_at lanes o.port) ≡ true) ⊎ ((q : ℕ) × (1 ≤ stood q (lane_at lanes o.port).waiting) × (1 ≤ calls q acts))
+                  → (eager (lane_at lanes o.port) ≡ true) ⊎ CallsOne (lanes_face t eager lanes route) acts o.port
+              mine (inl h) = inl h
+              mine (inr r) = inr (record { port = r.0; stood = r.1; called = r.2 })
 
 -- which wakes are about a port alone
 pub event_at : (s p : ℕ) → IsAt (wakes.Event (record { 0 = s })) p

@@ -66,7 +66,8 @@ uart_read_modest u p now offset = by_offset (offset == 0) (offset == 5) where
   by_offset : (b c : Bool) → ServesModestly (Uart u) p now
       (cond b (served (Uart (record u { input = drop 1 u.input })) p (read_response p (first_byte u.input ∷ [])) true)
       (cond c (served (Uart u) p (read_response p (line_status u ∷ [])) true) (served (Uart u) p (read_response p (0 ∷ [])) true)))
-  by_offset true c = served_modest (Uart u) (Uart (record u { input = drop 1 u.input })) p (read_response p (first_byte u.input ∷ [])) true now refl (λ h. h) refl
+  by_offset true c =
+      served_modest (Uart u) (Uart (record u { input = drop 1 u.input })) p (read_response p (first_byte u.input ∷ [])) true now refl (λ h. h) refl
   by_offset false true = served_modest (Uart u) (Uart u) p (read_response p (line_status u ∷ [])) true now refl (λ h. h) refl
   by_offset false false = served_modest (Uart u) (Uart u) p (read_response p (0 ∷ [])) true now refl (λ h. h) refl
 
@@ -130,9 +131,11 @@ speech_one p = by (p.src == 1) where
 
 -- Wakes.
 
-module _ (s : ServerState) (next : ℕ) (w : Wake) (now : ℕ) (soon_served : s.latency ≤ LATENCY_MAX) (small : IsDeviceWithin s.device) (fit : All MayPass (queued_packets s.flow.items)) where
+module _ (s : ServerState) (next : ℕ) (w : Wake) (now : ℕ) (soon_served : s.latency ≤ LATENCY_MAX) (small : IsDeviceWithin s.device)
+    (fit : All MayPass (queued_packets s.flow.items)) where
   -- a step of the queue, beside what the device does
-  with_modest : (dev : Device) (answer : Answer) (es : List Entry) (v : Moves) (dcs : List Change) (ls : List Act) (m : LaneMoved) → IsLaneModest (slots_of (Server s)) now m → device_kind dev ≡ device_kind s.device → IsDeviceWithin dev
+  with_modest : (dev : Device) (answer : Answer) (es : List Entry) (v : Moves) (dcs : List Change) (ls : List Act) (m : LaneMoved)
+      → IsLaneModest (slots_of (Server s)) now m → device_kind dev ≡ device_kind s.device → IsDeviceWithin dev
       → AreOwnChanges (slots_of (Server s)) dcs → AreTimely now dcs → AllLevels ls → length es ≤ 1 → length (console_of es) ≤ wake_speech w → v.made ≡ []
       → IsModest (Server s) next w now (server_with (record s { device = dev }) next answer es v (record m { changes = dcs ++ m.changes; acts = ls ++ m.acts }))
   unfolding IsWithin part_speech face_of
@@ -167,16 +170,19 @@ module _ (s : ServerState) (next : ℕ) (w : Wake) (now : ℕ) (soon_served : s.
         quiet true = refl
         quiet false = refl
 
-  gone : (items : List Queued) → All MayPass (queued_packets items) → IsLaneModest (slots_of (Server s)) now (opened s.places (gone_in server_outlet (now + s.latency) items) (waiting_of s.waiter))
+  gone : (items : List Queued) → All MayPass (queued_packets items)
+      → IsLaneModest (slots_of (Server s)) now (opened s.places (gone_in server_outlet (now + s.latency) items) (waiting_of s.waiter))
   gone items h = open_modest (slots_of (Server s)) now _ (gone_in server_outlet (now + s.latency) items) (waiting_of s.waiter)
       (gone_modest (slots_of (Server s)) now server_outlet (now + s.latency) items (serve_class s.device) (omega arith) (soon now (now + s.latency) (omega (arith, soon_served))) h)
 
   -- the first request is served
-  serving : (x : Queued) (xs : List Queued) → All MayPass (queued_packets (x ∷ xs)) → (b : Bool) → 1 ≤ wake_speech w → IsModest (Server s) next w now (server_served s next now x xs s.flow.out (serve s.device x.packet now) b)
+  serving : (x : Queued) (xs : List Queued) → All MayPass (queued_packets (x ∷ xs)) → (b : Bool) → 1 ≤ wake_speech w
+      → IsModest (Server s) next w now (server_served s next now x xs s.flow.out (serve s.device x.packet now) b)
   serving x xs h true one =
       let r : Served = serve s.device x.packet now in
       let m = serve_modest s.device x.packet now in
-      with_modest r.device answers.Nothing r.entries (record no_moves { absorbed = x.packet ∷ [] }) r.changes r.acts _ (gone (x ∷ xs) h) m.kind (m.within small) m.own (m.timely small) m.levels m.few
+      with_modest r.device answers.Nothing r.entries (record no_moves { absorbed = x.packet ∷ [] }) r.changes r.acts _ (gone (x ∷ xs) h) m.kind
+      (m.within small) m.own (m.timely small) m.levels m.few
       (omega (arith, m.spoken, speech_one x.packet, one)) refl
   serving x xs h false one =
       let r : Served = serve s.device x.packet now in
@@ -188,7 +194,8 @@ module _ (s : ServerState) (next : ℕ) (w : Wake) (now : ℕ) (soon_served : s.
       (moved_modest (slots_of (Server s)) now (server_lane s) (ask_in 0 (y ∷ xs) s.flow.out) (ask_modest (slots_of (Server s)) now 0 (y ∷ xs) s.flow.out held)) m.kind (m.within small) m.own (m.timely small) m.levels m.few
       (omega (arith, m.spoken, speech_one x.packet, one)) refl
 
-  serves : (items : List Queued) → All MayPass (queued_packets items) → 1 ≤ wake_speech w → IsModest (Server s) next w now (server_serves s next now items s.flow.out)
+  serves : (items : List Queued) → All MayPass (queued_packets items) → 1 ≤ wake_speech w
+      → IsModest (Server s) next w now (server_serves s next now items s.flow.out)
   unfolding IsWithin
   serves [] h one = stays_modest (Server s) next w now (soon_served, small, fit)
   serves (x ∷ xs) h one = serving x xs h (is_write_back x.packet.cmd) one
@@ -210,7 +217,8 @@ module _ (s : ServerState) (next : ℕ) (w : Wake) (now : ℕ) (soon_served : s.
     spoken = omega (arith, no_speech (event_acts d) (event_levels d));
   }
 
-pub server_modest : (s : ServerState) (next : ℕ) (w : Wake) (now : ℕ) → IsWithin (Server s) → MayCome w → IsModest (Server s) next w now (object_step (Server s) next w now)
+pub server_modest : (s : ServerState) (next : ℕ) (w : Wake) (now : ℕ) → IsWithin (Server s) → MayCome w
+    → IsModest (Server s) next w now (object_step (Server s) next w now)
 unfolding object_step IsWithin
 server_modest s next (wakes.Event slot) now h m = by (slot.0 == serve_slot) (slot.0 == own_slot) where
   by : (b c : Bool) → IsModest (Server s) next (wakes.Event slot) now (cond b (server_serves s next now s.flow.items s.flow.out) (cond c (server_event s next s.device) (stays (Server s) next)))
@@ -218,7 +226,8 @@ server_modest s next (wakes.Event slot) now h m = by (slot.0 == serve_slot) (slo
   by false true = own_event s next (wakes.Event slot) now h.0 h.1 h.2 s.device refl
   by false false = stays_modest (Server s) next (wakes.Event slot) now h
 server_modest s next (wakes.Offer port p) now h m = offered s next (wakes.Offer port p) now h.0 h.1 h.2 p (has_room s.places (server_lane s)) m
-server_modest s next (wakes.Taken port) now h m = alone s next (wakes.Taken port) now h.0 h.1 h.2 answers.Nothing [] _ (gone s next (wakes.Taken port) now h.0 h.1 h.2 s.flow.items h.2) (omega arith) refl
+server_modest s next (wakes.Taken port) now h m =
+    alone s next (wakes.Taken port) now h.0 h.1 h.2 answers.Nothing [] _ (gone s next (wakes.Taken port) now h.0 h.1 h.2 s.flow.items h.2) (omega arith) refl
 server_modest s next (wakes.Refused port) now h m =
     alone s next (wakes.Refused port) now h.0 h.1 h.2 answers.Nothing [] (moved (server_lane s) (hold_in s.flow.items s.flow.out))
     (moved_modest (slots_of (Server s)) now (server_lane s) (hold_in s.flow.items s.flow.out) (hold_modest (slots_of (Server s)) now s.flow.items s.flow.out h.2)) (omega arith) refl

@@ -53,7 +53,8 @@ own_spent slot b h n = by (n == 1) (n == slot.0) refl refl where
   by : (x y : Bool) → (n == 1) ≡ x → (n == slot.0) ≡ y → false ≡ (if y then false else (b && x))
   by x true f g = refl
   by false false f g = sym (and_false b)
-  by true false f g = absurd (no_both (n == slot.0) (let k : n ≡ 1 = same_is n 1 f in let l : slot.0 ≡ 1 = same_is slot.0 1 (and_parts b (slot.0 == 1) h).1 in rw (k, l) refl) g)
+  by true false f g =
+      absurd (no_both (n == slot.0) (let k : n ≡ 1 = same_is n 1 f in let l : slot.0 ≡ 1 = same_is slot.0 1 (and_parts b (slot.0 == 1) h).1 in rw (k, l) refl) g)
 
 all_meet : {f g : Packet → Bool} (items : List Queued) → ((x : Packet) → f x ≡ g x) → AllMeet f items → AllMeet g items
 all_meet [] e h = tt
@@ -68,7 +69,8 @@ waiter_is : (b : Bool) → waiting_of (is_some_port (waiting_of b)) ≡ waiting_
 waiter_is true = refl
 waiter_is false = refl
 
-opened_waiter : (room : Bool) (m : Moved) (b : Bool) → waiting_of (is_some_port (open_in room m (waiting_of b)).lane.waiting) ≡ (open_in room m (waiting_of b)).lane.waiting
+opened_waiter : (room : Bool) (m : Moved) (b : Bool)
+    → waiting_of (is_some_port (open_in room m (waiting_of b)).lane.waiting) ≡ (open_in room m (waiting_of b)).lane.waiting
 opened_waiter true m true = refl
 opened_waiter true m false = refl
 opened_waiter false m true = refl
@@ -77,14 +79,16 @@ opened_waiter false m false = refl
 taken_waiter : (l : Lane) (x : Packet) (ready : ℕ) (room : Bool) → l.waiting ≡ []
     → waiting_of (is_some_port (taken_in server_outlet l 0 x ready room).lane.waiting) ≡ (taken_in server_outlet l 0 x ready room).lane.waiting
 taken_waiter l x ready true e = rw e refl
-taken_waiter l x ready false e = subst (λ xs. waiting_of (is_some_port xs) ≡ xs) (sym (joins_last 0 l.waiting (ap (stood 0) e) ∙ ap (λ xs. xs ++ 0 ∷ []) e)) refl
+taken_waiter l x ready false e =
+    subst (λ xs. waiting_of (is_some_port xs) ≡ xs) (sym (joins_last 0 l.waiting (ap (stood 0) e) ∙ ap (λ xs. xs ++ 0 ∷ []) e)) refl
 
 none_full : (b : Bool) (xs : List ℕ) → xs ≡ [] → (b && is_some_port xs) ≡ false
 none_full true xs e = rw e refl
 none_full false xs e = refl
 
 -- what a lane's step owes beside the law of the lane
-record Beside (w : Wake) (answer : Answer) (s : ServerState) (dev : Device) (es : List Entry) (v : Moves) (dcs : List Change) (ls : List Act) (m : LaneMoved) : Type 0 where
+record Beside (w : Wake) (answer : Answer) (s : ServerState) (dev : Device) (es : List Entry) (v : Moves) (dcs : List Change) (ls : List Act)
+    (m : LaneMoved) : Type 0 where
   back : waiting_of (is_some_port m.lane.waiting) ≡ m.lane.waiting
   head : HeadMeets (λ x. is_response x.cmd) m.lane.flow.items m.lane.flow.out
   admits : AllMeet (λ x. server_admits s x) m.lane.flow.items
@@ -100,14 +104,17 @@ record Beside (w : Wake) (answer : Answer) (s : ServerState) (dev : Device) (es 
   quiet : (p : ℕ) → 1 ≤ told w p → (es ≡ []) × (v ≡ no_moves) × (device_view dev ≡ device_view s.device)
 
 module _ (rs : List Route) (ram : ℕ) (s : ServerState) (ok : ServerOk rs ram s) where
-  holds_head : (t : ServerState) (p : ℕ) (x : Packet) → head_of (lane_at (server_lane t ∷ []) p).flow.items ≡ Some x → (h : Packet → ℕ) → h x ≤ weigh h (queued_packets t.flow.items)
+  holds_head : (t : ServerState) (p : ℕ) (x : Packet) → head_of (lane_at (server_lane t ∷ []) p).flow.items ≡ Some x → (h : Packet → ℕ)
+      → h x ≤ weigh h (queued_packets t.flow.items)
   holds_head t zero x e h = head_held t.flow.items x h e
   holds_head t (suc p) x e h = cc
 
   sends_head : (t : ServerState) → HeadMeets (λ x. is_response x.cmd) t.flow.items t.flow.out → (p : ℕ) (x : Packet)
-      → 1 ≤ asked_bit (lane_at (server_lane t ∷ []) p).flow.out + waits_bit (lane_at (server_lane t ∷ []) p).flow.out → head_of (lane_at (server_lane t ∷ []) p).flow.items ≡ Some x → is_response x.cmd ≡ true
+      → 1 ≤ asked_bit (lane_at (server_lane t ∷ []) p).flow.out + waits_bit (lane_at (server_lane t ∷ []) p).flow.out
+      → head_of (lane_at (server_lane t ∷ []) p).flow.items ≡ Some x → is_response x.cmd ≡ true
   sends_head t h zero x b e = by t.flow.items t.flow.out h b e where
-    by : (items : List Queued) (out : OutState) → HeadMeets (λ y. is_response y.cmd) items out → 1 ≤ asked_bit out + waits_bit out → head_of items ≡ Some x → is_response x.cmd ≡ true
+    by : (items : List Queued) (out : OutState) → HeadMeets (λ y. is_response y.cmd) items out → 1 ≤ asked_bit out + waits_bit out → head_of items ≡ Some x
+        → is_response x.cmd ≡ true
     by [] out h b e = cc
     by (y ∷ ys) Quiet h b e = absurd (omega arith)
     by (y ∷ ys) Due h b e = absurd (omega arith)
@@ -125,7 +132,8 @@ module _ (rs : List Route) (ram : ℕ) (s : ServerState) (ok : ServerOk rs ram s
 
   by_lane : (w : Wake) (next : ℕ) (answer : Answer) (dev : Device) (es : List Entry) (v : Moves) (dcs : List Change) (ls : List Act) (m : LaneMoved) → IsAt w 0
       → LaneLaw (is_hungry s.places) server_outlet (server_lane s) w m.lane answer m.acts m.changes → Beside w answer s dev es v dcs ls m
-      → ((k : Mind) → MayThink rs ram k (server_face s) w → Mindless rs ram (server_face s) (server_face (record s { flow = m.lane.flow; waiter = is_some_port m.lane.waiting; device = dev })) (ls ++ m.acts) es v)
+      → ((k : Mind) → MayThink rs ram k (server_face s) w
+      → Mindless rs ram (server_face s) (server_face (record s { flow = m.lane.flow; waiter = is_some_port m.lane.waiting; device = dev })) (ls ++ m.acts) es v)
       → (let r = server_with (record s { device = dev }) next answer es v (record m { changes = dcs ++ m.changes; acts = ls ++ m.acts }) in Keeps rs ram (server_face s) w r)
   unfolding face_of IsOk
   by_lane w next answer dev es v dcs ls m at law b mindless =
@@ -141,7 +149,9 @@ module _ (rs : List Route) (ram : ℕ) (s : ServerState) (ok : ServerOk rs ram s
           size = ok.size;
           mapped = λ a h. ok.mapped a (subst (λ r. is_within a r ≡ true) (b.range ram) h);
         };
-        law = levels_law (server_face s) w (server_face t) answer ls m.acts b.levels (subst (λ l. Law (server_face s) w (lanes_face (server_rest t) (is_hungry s.places) (l ∷ []) (λ x. 0)) answer m.acts) (sym same)
+        law =
+            levels_law (server_face s) w (server_face t) answer ls m.acts b.levels
+            (subst (λ l. Law (server_face s) w (lanes_face (server_rest t) (is_hungry s.places) (l ∷ []) (λ x. 0)) answer m.acts) (sym same)
             (lanes_law (is_hungry s.places) (server_lane s ∷ []) server_outlet m.lane w answer m.acts m.changes (omega arith) (one_lane (server_lane s) ok.lane) law (server_rest s) (server_rest t) (λ x. 0) (λ x. 0) at
             (λ q x e. refl) (λ x. refl) (λ p x. refl) admits (λ p. refl) (subst (λ l. AreSent (server_rest t) (l ∷ [])) same (sent_of t b.head))));
         due = λ n. by_slot n (n == 0) refl;
@@ -156,7 +166,8 @@ module _ (rs : List Route) (ram : ℕ) (s : ServerState) (ok : ServerOk rs ram s
           light = omega (arith, b.light, weight-append ls m.acts);
         };
         same = record { cpu = refl; instant = refl; empty = λ e. absurd (cc e) };
-        quiet = λ p h. (let q = b.quiet p h in record { entries = q.0; moves = q.1; passed = levels_passed ls m.acts b.levels ∙ b.passed; mind = refl; memory = q.2 });
+        quiet =
+            λ p h. (let q = b.quiet p h in record { entries = q.0; moves = q.1; passed = levels_passed ls m.acts b.levels ∙ b.passed; mind = refl; memory = q.2 });
         acts = levels_acts ls m.acts b.levels b.acts;
         hops = no_pass (server_face s) (ls ++ m.acts) (levels_passed ls m.acts b.levels ∙ b.passed);
         mindless = λ k e may. mindless k may;
@@ -183,18 +194,21 @@ module _ (rs : List Route) (ram : ℕ) (s : ServerState) (ok : ServerOk rs ram s
   }
 
   -- nothing of the ports does
-  device_law : (w : Wake) (dev : Device) (ls : List Act) → AllLevels ls → ((n : ℕ) → device_range n dev ≡ device_range n s.device) → ((p : ℕ) → (told w p ≡ 0) × (refused w p ≡ 0) × (retry w p ≡ 0) × (shown w p ≡ 0))
+  device_law : (w : Wake) (dev : Device) (ls : List Act) → AllLevels ls → ((n : ℕ) → device_range n dev ≡ device_range n s.device)
+      → ((p : ℕ) → (told w p ≡ 0) × (refused w p ≡ 0) × (retry w p ≡ 0) × (shown w p ≡ 0))
       → Law (server_face s) w (server_face (record s { device = dev })) answers.Nothing ls
   device_law w dev ls levels range mute =
       let t : ServerState = record s { device = dev } in
-      subst (λ xs. Law (server_face s) w (server_face t) answers.Nothing xs) (append-nil ls) (levels_law (server_face s) w (server_face t) answers.Nothing ls [] levels
+      subst (λ xs. Law (server_face s) w (server_face t) answers.Nothing xs) (append-nil ls)
+      (levels_law (server_face s) w (server_face t) answers.Nothing ls [] levels
       (stays_law (server_face s) (server_face t) w answers.Nothing (lanes_ok (server_rest t) (is_hungry s.places) (server_lane s ∷ []) (λ x. 0) (one_lane (server_lane s) ok.lane) (sent_of t ok.head))
       (record { ports = refl; asked = λ p. refl; waits = λ p. refl; head = λ p. refl; listed = λ p. refl; stands = λ l p. refl; hungry = λ l. refl; route = λ x. refl; sends = λ p x. refl; admits = λ p x. ap (λ r. is_response x.cmd || is_within x.addr r) (range s.common.ram); passes = λ p. refl })
       (λ p. ((mute p).0, (mute p).1, (mute p).2, omega (arith, rejected_le w answers.Nothing p, (mute p).3)))
       (λ q x e. absurd (omega (arith, ap (λ u. shown u q) e, only_self q 1, (mute q).3)))))
 
   -- nothing of the ports changes, and the device may
-  by_device : (w : Wake) (next : ℕ) (dev : Device) (v : Moves) (ls : List Act) → AllLevels ls → weight ls ≤ spend w answers.Nothing → ((p : ℕ) → (told w p ≡ 0) × (refused w p ≡ 0) × (retry w p ≡ 0) × (shown w p ≡ 0))
+  by_device : (w : Wake) (next : ℕ) (dev : Device) (v : Moves) (ls : List Act) → AllLevels ls → weight ls ≤ spend w answers.Nothing
+      → ((p : ℕ) → (told w p ≡ 0) × (refused w p ≡ 0) × (retry w p ≡ 0) × (shown w p ≡ 0))
       → (let t = record s { device = dev } in let r : Stepped = record (stays (Server t) next) { moves = v; acts = ls } in
       ((n : ℕ) → device_range n dev ≡ device_range n s.device) → ((n : ℕ) → server_due t n ≡ due_before w (server_due s n) n) → (device_view dev ≡ device_view s.device)
       → Conserves (server_face s) w (server_face t) answers.Nothing ls v → v.made ≡ [] → v.served ≡ [] → v.absorbed ≡ []
@@ -217,7 +231,8 @@ module _ (rs : List Route) (ram : ℕ) (s : ServerState) (ok : ServerOk rs ram s
           fits = λ n. ap (weigh (bad rs ram n)) none_made;
           answered = omega (arith, answered k may, ap (weigh core) none_absorbed);
           passed = ap (weigh core) (no_passed ls levels);
-          serves = λ m l c. rw none_served (subst (λ (o : Option (List ℕ)). Serves rs m [] [] (seen o m)) (sym view) (subst (λ (n : List ℕ). Serves rs m [] [] n) (sym c) (none m)));
+          serves =
+              λ m l c. rw none_served (subst (λ (o : Option (List ℕ)). Serves rs m [] [] (seen o m)) (sym view) (subst (λ (n : List ℕ). Serves rs m [] [] n) (sym c) (none m)));
           stays = λ h. view ∙ h;
           remains = λ h. sym view ∙ h;
         };
@@ -242,7 +257,8 @@ module _ (rs : List Route) (ram : ℕ) (s : ServerState) (ok : ServerOk rs ram s
   calm_items m items c f = ap (λ xs. weigh f (queued_packets xs)) c.same
 
   -- the offer of its head was refused, or is made again
-  calm_head : (items : List Queued) (out to : OutState) → HeadMeets (λ x. is_response x.cmd) items out → 1 ≤ asked_bit out + waits_bit out → HeadMeets (λ x. is_response x.cmd) items to
+  calm_head : (items : List Queued) (out to : OutState) → HeadMeets (λ x. is_response x.cmd) items out → 1 ≤ asked_bit out + waits_bit out
+      → HeadMeets (λ x. is_response x.cmd) items to
   calm_head [] out to h b = tt
   calm_head (x ∷ xs) Quiet to h b = absurd (omega arith)
   calm_head (x ∷ xs) Due to h b = absurd (omega arith)
@@ -255,12 +271,14 @@ module _ (rs : List Route) (ram : ℕ) (s : ServerState) (ok : ServerOk rs ram s
   calm_head (x ∷ xs) Waits Asked h b = h
   calm_head (x ∷ xs) Waits Waits h b = h
 
-  by_calm : (w : Wake) (next : ℕ) (m : Moved) → IsAt w 0 → FlowLaw server_outlet s.flow w m.flow m.acts m.changes → IsCalm s.flow.items m → ((q : ℕ) → shown w q ≡ 0) → 1 ≤ asked_bit s.flow.out + waits_bit s.flow.out
+  by_calm : (w : Wake) (next : ℕ) (m : Moved) → IsAt w 0 → FlowLaw server_outlet s.flow w m.flow m.acts m.changes → IsCalm s.flow.items m
+      → ((q : ℕ) → shown w q ≡ 0) → 1 ≤ asked_bit s.flow.out + waits_bit s.flow.out
       → ((b : Bool) (n : ℕ) → due_before w b n ≡ b) → ((f : Packet → ℕ) (a : Answer) → came_in f w a ≡ 0) → ((f : Packet → ℕ) (g : Face) → went_out f g w ≡ 0)
       → ((p : ℕ) → offers p m.acts ≤ retry w p + starts w) → weight m.acts ≤ spend w answers.Nothing
       → Keeps rs ram (server_face s) w (server_with s next answers.Nothing [] no_moves (moved (server_lane s) m))
   by_calm w next m at law calm quiet b due come out few light =
-      by_lane w next answers.Nothing s.device [] no_moves [] [] (moved (server_lane s) m) at (moved_law s.places server_outlet (server_lane s) w m law calm quiet)
+      by_lane w next answers.Nothing s.device [] no_moves [] [] (moved (server_lane s) m) at
+      (moved_law s.places server_outlet (server_lane s) w m law calm quiet)
       (record {
         back = waiter_is s.waiter;
         head = subst (λ xs. HeadMeets (λ x. is_response x.cmd) xs m.flow.out) (sym calm.same) (calm_head s.flow.items s.flow.out m.flow.out ok.head b);
@@ -283,19 +301,23 @@ module _ (rs : List Route) (ram : ℕ) (s : ServerState) (ok : ServerOk rs ram s
       })
       (λ k may. quiet_mindless w (record s { flow = m.flow; waiter = is_some_port (waiting_of s.waiter) }) m.acts [] refl calm.passed (λ n. none n))
 
-  gone_head : (now : ℕ) (items : List Queued) → (let f = (gone_in server_outlet (now + s.latency) items).flow in HeadMeets (λ x. is_response x.cmd) f.items f.out)
+  gone_head : (now : ℕ) (items : List Queued)
+      → (let f = (gone_in server_outlet (now + s.latency) items).flow in HeadMeets (λ x. is_response x.cmd) f.items f.out)
   gone_head now [] = tt
   gone_head now (x ∷ []) = tt
   gone_head now (x ∷ y ∷ ys) = tt
 
-  gone_admits : (now : ℕ) (items : List Queued) → AllMeet (λ x. server_admits s x) items → AllMeet (λ x. server_admits s x) (gone_in server_outlet (now + s.latency) items).flow.items
+  gone_admits : (now : ℕ) (items : List Queued) → AllMeet (λ x. server_admits s x) items
+      → AllMeet (λ x. server_admits s x) (gone_in server_outlet (now + s.latency) items).flow.items
   gone_admits now [] h = tt
   gone_admits now (x ∷ []) h = tt
   gone_admits now (x ∷ y ∷ ys) h = h.1
 
   -- the head is gone, and where there is room who waits is called
-  gone_beside : (w : Wake) (now : ℕ) (dev : Device) (es : List Entry) (v : Moves) (dcs : List Change) (ls : List Act) → ((n : ℕ) → device_range n dev ≡ device_range n s.device)
-      → ((n : ℕ) → (n == 0) ≡ false → device_due dev n ≡ due_after dcs (due_before w (device_due s.device n) n) n) → ((x : Bool) → due_after dcs x 0 ≡ x) → AllLevels ls → weight ls + 2 ≤ spend w answers.Nothing
+  gone_beside : (w : Wake) (now : ℕ) (dev : Device) (es : List Entry) (v : Moves) (dcs : List Change) (ls : List Act)
+      → ((n : ℕ) → device_range n dev ≡ device_range n s.device)
+      → ((n : ℕ) → (n == 0) ≡ false → device_due dev n ≡ due_after dcs (due_before w (device_due s.device n) n) n) → ((x : Bool) → due_after dcs x 0 ≡ x)
+      → AllLevels ls → weight ls + 2 ≤ spend w answers.Nothing
       → (let m : Moved = gone_in server_outlet (now + s.latency) s.flow.items in
       ((f : Packet → ℕ) → weigh f (queued_packets s.flow.items) + came_in f w answers.Nothing
       ≡ weigh f (queued_packets m.flow.items) + went_out f (server_face s) w + weigh f v.answered + weigh f v.absorbed + weigh f (requests_of v.served)) → v.made ≡ [] → v.served ≡ []
@@ -307,7 +329,9 @@ module _ (rs : List Route) (ram : ℕ) (s : ServerState) (ok : ServerOk rs ram s
       let acts = opened_passed m room (waiting_of s.waiter) (gone_silent server_outlet (now + s.latency) s.flow.items) in
       record {
         back = opened_waiter room m s.waiter;
-        head = subst (λ (f : Flow). HeadMeets (λ x. is_response x.cmd) f.items f.out) (sym (opened_flow m room (waiting_of s.waiter))) (gone_head now s.flow.items);
+        head =
+            subst (λ (f : Flow). HeadMeets (λ x. is_response x.cmd) f.items f.out) (sym (opened_flow m room (waiting_of s.waiter)))
+            (gone_head now s.flow.items);
         admits = subst (λ xs. AllMeet (λ x. server_admits s x) xs) (sym (opened_items m room (waiting_of s.waiter))) (gone_admits now s.flow.items ok.admits);
         range = range;
         due = due;
@@ -317,7 +341,8 @@ module _ (rs : List Route) (ram : ℕ) (s : ServerState) (ok : ServerOk rs ram s
         conserves = record {
           kept = queued_packets m.flow.items;
           before = λ f e. before f;
-          after = λ f e. omega (arith, ap (λ xs. weigh f (queued_packets xs)) (opened_items m room (waiting_of s.waiter)), ap (weigh f) acts.0, ap (weigh f) none_made, ap (λ vs. weigh f (responses_of vs)) none_served);
+          after =
+              λ f e. omega (arith, ap (λ xs. weigh f (queued_packets xs)) (opened_items m room (waiting_of s.waiter)), ap (weigh f) acts.0, ap (weigh f) none_made, ap (λ vs. weigh f (responses_of vs)) none_served);
           numbers = λ f e. rw none_served refl;
         };
         few = λ p. omega (arith, acts.3 p);
@@ -326,7 +351,8 @@ module _ (rs : List Route) (ram : ℕ) (s : ServerState) (ok : ServerOk rs ram s
         quiet = quiet;
       }
 
-  pub server_taken : (next now : ℕ) → MayWake (server_face s) (wakes.Taken (record { 0 = 0 })) → Keeps rs ram (server_face s) (wakes.Taken (record { 0 = 0 })) (server_step s next (wakes.Taken (record { 0 = 0 })) now)
+  pub server_taken : (next now : ℕ) → MayWake (server_face s) (wakes.Taken (record { 0 = 0 }))
+      → Keeps rs ram (server_face s) (wakes.Taken (record { 0 = 0 })) (server_step s next (wakes.Taken (record { 0 = 0 })) now)
   server_taken next now may =
       let one : 1 ≤ asked_bit s.flow.out = omega (arith, may.told 0, only_self 0 1) in
       let m : Moved = gone_in server_outlet (now + s.latency) s.flow.items in
@@ -337,11 +363,14 @@ module _ (rs : List Route) (ram : ℕ) (s : ServerState) (ok : ServerOk rs ram s
       (opened_law s.places server_outlet s.flow w m (waiting_of s.waiter) (gone_law server_outlet (now + s.latency) s.flow.items s.flow.out ok.lane one) (gone_silent server_outlet (now + s.latency) s.flow.items) (λ q. refl)) beside
       (λ k may. quiet_mindless w (record s { flow = b.lane.flow; waiter = is_some_port b.lane.waiting }) b.acts [] refl beside.passed (λ n. none n))
 
-  server_refused : (next now : ℕ) → MayWake (server_face s) (wakes.Refused (record { 0 = 0 })) → Keeps rs ram (server_face s) (wakes.Refused (record { 0 = 0 })) (server_step s next (wakes.Refused (record { 0 = 0 })) now)
+  server_refused : (next now : ℕ) → MayWake (server_face s) (wakes.Refused (record { 0 = 0 }))
+      → Keeps rs ram (server_face s) (wakes.Refused (record { 0 = 0 })) (server_step s next (wakes.Refused (record { 0 = 0 })) now)
   server_refused next now may =
       let one : 1 ≤ asked_bit s.flow.out = omega (arith, may.told 0, only_self 0 1) in
-      by_calm (wakes.Refused (record { 0 = 0 })) next (hold_in s.flow.items s.flow.out) (refused_at 0) (hold_law server_outlet s.flow.items s.flow.out ok.lane one) (hold_calm s.flow.items s.flow.out) (λ q. refl)
-      (omega (arith, one)) (λ b n. refl) (λ f a. refl) (λ f g. refl) (λ p. omega (arith, none p s.flow.items s.flow.out)) (omega (arith, light s.flow.items s.flow.out)) where
+      by_calm (wakes.Refused (record { 0 = 0 })) next (hold_in s.flow.items s.flow.out) (refused_at 0)
+      (hold_law server_outlet s.flow.items s.flow.out ok.lane one) (hold_calm s.flow.items s.flow.out) (λ q. refl)
+      (omega (arith, one)) (λ b n. refl) (λ f a. refl) (λ f g. refl) (λ p. omega (arith, none p s.flow.items s.flow.out))
+      (omega (arith, light s.flow.items s.flow.out)) where
         none : (p : ℕ) (items : List Queued) (out : OutState) → offers p (hold_in items out).acts ≡ 0
         none p items Quiet = refl
         none p items Due = refl
@@ -354,10 +383,12 @@ module _ (rs : List Route) (ram : ℕ) (s : ServerState) (ok : ServerOk rs ram s
         light items Asked = refl
         light items Waits = refl
 
-  server_retry : (next now : ℕ) → MayWake (server_face s) (wakes.Retry (record { 0 = 0 })) → Keeps rs ram (server_face s) (wakes.Retry (record { 0 = 0 })) (server_step s next (wakes.Retry (record { 0 = 0 })) now)
+  server_retry : (next now : ℕ) → MayWake (server_face s) (wakes.Retry (record { 0 = 0 }))
+      → Keeps rs ram (server_face s) (wakes.Retry (record { 0 = 0 })) (server_step s next (wakes.Retry (record { 0 = 0 })) now)
   server_retry next now may =
       let one : 1 ≤ waits_bit s.flow.out = omega (arith, may.retry 0, only_self 0 1) in
-      by_calm (wakes.Retry (record { 0 = 0 })) next (again_in 0 s.flow.items s.flow.out) (retry_at 0) (again_law server_outlet s.flow.items s.flow.out ok.lane one) (again_calm 0 s.flow.items s.flow.out) (λ q. refl)
+      by_calm (wakes.Retry (record { 0 = 0 })) next (again_in 0 s.flow.items s.flow.out) (retry_at 0)
+      (again_law server_outlet s.flow.items s.flow.out ok.lane one) (again_calm 0 s.flow.items s.flow.out) (λ q. refl)
       (omega (arith, one)) (λ b n. refl) (λ f a. refl) (λ f g. refl) (λ p. few p s.flow.items s.flow.out) (light s.flow.items s.flow.out) where
         few : (p : ℕ) (items : List Queued) (out : OutState) → offers p (again_in 0 items out).acts ≤ only 0 p 1 + 0
         few p [] out = omega arith
@@ -373,28 +404,32 @@ module _ (rs : List Route) (ram : ℕ) (s : ServerState) (ok : ServerOk rs ram s
         light (x ∷ xs) Asked = omega arith
         light (x ∷ xs) Waits = omega arith
 
-  put_head : (t : Packet → Bool) (o : Outlet) (y : Packet) (ready : ℕ) (items : List Queued) (out : OutState) → HeadMeets t items out → (let f = (put_in o y ready items out).flow in HeadMeets t f.items f.out)
+  put_head : (t : Packet → Bool) (o : Outlet) (y : Packet) (ready : ℕ) (items : List Queued) (out : OutState) → HeadMeets t items out
+      → (let f = (put_in o y ready items out).flow in HeadMeets t f.items f.out)
   put_head t o y ready [] out h = tt
   put_head t o y ready (x ∷ xs) Quiet h = tt
   put_head t o y ready (x ∷ xs) Due h = tt
   put_head t o y ready (x ∷ xs) Asked h = h
   put_head t o y ready (x ∷ xs) Waits h = h
 
-  put_meet : (t : Packet → Bool) (o : Outlet) (y : Packet) (ready : ℕ) (items : List Queued) (out : OutState) → AllMeet t items → t y ≡ true → AllMeet t (put_in o y ready items out).flow.items
+  put_meet : (t : Packet → Bool) (o : Outlet) (y : Packet) (ready : ℕ) (items : List Queued) (out : OutState) → AllMeet t items → t y ≡ true
+      → AllMeet t (put_in o y ready items out).flow.items
   put_meet t o y ready [] out h e = (e, tt)
   put_meet t o y ready (x ∷ xs) out h e = more (x ∷ xs) h where
     more : (zs : List Queued) → AllMeet t zs → AllMeet t (zs ++ record { packet = y; ready = ready } ∷ [])
     more [] h = (e, tt)
     more (z ∷ zs) h = (h.0, more zs h.1)
 
-  server_offered : (next now : ℕ) (x : Packet) → MayWake (server_face s) (wakes.Offer (record { 0 = 0 }) x) → Keeps rs ram (server_face s) (wakes.Offer (record { 0 = 0 }) x) (server_step s next (wakes.Offer (record { 0 = 0 }) x) now)
+  server_offered : (next now : ℕ) (x : Packet) → MayWake (server_face s) (wakes.Offer (record { 0 = 0 }) x)
+      → Keeps rs ram (server_face s) (wakes.Offer (record { 0 = 0 }) x) (server_step s next (wakes.Offer (record { 0 = 0 }) x) now)
   server_offered next now x may =
       let l : Lane = server_lane s in
       let w : Wake = wakes.Offer (record { 0 = 0 }) x in
       let empty : waiting_of s.waiter ≡ [] = nobody s.waiter (omega (arith, may.fresh 0 (omega (arith, only_self 0 1)))) in
       let ready : ℕ = now + s.latency in
       let law = offer_law s.places server_outlet 0 l x x ready ok.lane
-      (none_full (nat_lt (length (put_in server_outlet x ready s.flow.items s.flow.out).flow.items) s.places) (waiting_of s.waiter) empty) (ap (stood 0) empty) in
+      (none_full (nat_lt (length (put_in server_outlet x ready s.flow.items s.flow.out).flow.items) s.places) (waiting_of s.waiter) empty)
+      (ap (stood 0) empty) in
       by_room (has_room s.places l) law empty where
         nobody : (b : Bool) → stood 0 (waiting_of b) + 0 ≡ 0 → waiting_of b ≡ []
         nobody true e = absurd (omega (arith, only_self 0 1))
@@ -462,7 +497,8 @@ module _ (rs : List Route) (ram : ℕ) (s : ServerState) (ok : ServerOk rs ram s
     w : Wake
     w = wakes.Event (record { 0 = 0 })
 
-    by_write : (b : Bool) → is_write_back x.packet.cmd ≡ b → Keeps rs ram (server_face s) (wakes.Event (record { 0 = 0 })) (server_served s next now x xs s.flow.out (serve s.device x.packet now) b)
+    by_write : (b : Bool) → is_write_back x.packet.cmd ≡ b
+        → Keeps rs ram (server_face s) (wakes.Event (record { 0 = 0 })) (server_served s next now x xs s.flow.out (serve s.device x.packet now) b)
     by_write true k =
         let c = write_back_is x.packet.cmd k in
         let r : Served = serve s.device x.packet now in
@@ -491,7 +527,8 @@ module _ (rs : List Route) (ram : ℕ) (s : ServerState) (ok : ServerOk rs ram s
         let asked = ask_law server_outlet (y ∷ xs) s.flow.out (still_flow x y xs xs s.flow.out lane) due in
         let flow : FlowLaw server_outlet s.flow (wakes.Event (record { 0 = 0 })) m.flow m.acts m.changes = subst (λ ys. FlowLaw server_outlet (record { items = ys; out = s.flow.out }) (wakes.Event (record { 0 = 0 })) m.flow m.acts m.changes) (sym e)
         (other_head server_outlet (y ∷ xs) (x ∷ xs) s.flow.out (wakes.Event (record { 0 = 0 })) m.flow m.acts m.changes due asked) in
-        by_lane (wakes.Event (record { 0 = 0 })) next answers.Nothing r.device r.entries (record no_moves { served = record { request = x.packet; response = r.response } ∷ [] }) r.changes r.acts (moved (server_lane s) m) (event_at 0 0)
+        by_lane (wakes.Event (record { 0 = 0 })) next answers.Nothing r.device r.entries
+        (record no_moves { served = record { request = x.packet; response = r.response } ∷ [] }) r.changes r.acts (moved (server_lane s) m) (event_at 0 0)
         (moved_serving m flow (ap length (calm.same) ∙ sym (ap length e)) calm)
         (record {
           back = waiter_is s.waiter;
@@ -529,7 +566,8 @@ module _ (rs : List Route) (ram : ℕ) (s : ServerState) (ok : ServerOk rs ram s
           event_other : (n : ℕ) → (n == 0) ≡ false → (b : Bool) → (if n == 0 then false else b) ≡ b
           event_other n z b = rw z refl
 
-          asked_head : (y : Queued) (ys : List Queued) (out : OutState) → is_response y.packet.cmd ≡ true → (let f = (ask_in 0 (y ∷ ys) out).flow in HeadMeets (λ z. is_response z.cmd) f.items f.out)
+          asked_head : (y : Queued) (ys : List Queued) (out : OutState) → is_response y.packet.cmd ≡ true
+              → (let f = (ask_in 0 (y ∷ ys) out).flow in HeadMeets (λ z. is_response z.cmd) f.items f.out)
           asked_head y ys Quiet h = tt
           asked_head y ys Due h = h
           asked_head y ys Asked h = h
@@ -549,7 +587,8 @@ module _ (rs : List Route) (ram : ℕ) (s : ServerState) (ok : ServerOk rs ram s
           light (z ∷ zs) Asked = omega arith
           light (z ∷ zs) Waits = omega arith
 
-          moved_serving : (m : Moved) → FlowLaw server_outlet s.flow (wakes.Event (record { 0 = 0 })) m.flow m.acts m.changes → length m.flow.items ≡ length s.flow.items → IsCalm (record { packet = (serve s.device x.packet now).response; ready = x.ready } ∷ xs) m
+          moved_serving : (m : Moved) → FlowLaw server_outlet s.flow (wakes.Event (record { 0 = 0 })) m.flow m.acts m.changes
+              → length m.flow.items ≡ length s.flow.items → IsCalm (record { packet = (serve s.device x.packet now).response; ready = x.ready } ∷ xs) m
               → LaneLaw (is_hungry s.places) server_outlet (server_lane s) (wakes.Event (record { 0 = 0 })) (moved (server_lane s) m).lane answers.Nothing m.acts m.changes
           moved_serving m law long calm = record {
             flow = law;
@@ -560,7 +599,8 @@ module _ (rs : List Route) (ram : ℕ) (s : ServerState) (ok : ServerOk rs ram s
 
   -- nothing of the ports and the memory changes at the event of the device's own slot
   own_keeps : (d : Device) (next : ℕ) (slot : SlotNo) (b : Bool) → s.device ≡ d → (b && (slot.0 == 1)) ≡ true → ((n : ℕ) → device_due d n ≡ (b && (n == 1)))
-      → ((n : ℕ) → device_range n (device_after_event d) ≡ device_range n d) → device_view (device_after_event d) ≡ device_view d → ((n : ℕ) → device_due (device_after_event d) n ≡ false)
+      → ((n : ℕ) → device_range n (device_after_event d) ≡ device_range n d) → device_view (device_after_event d) ≡ device_view d
+      → ((n : ℕ) → device_due (device_after_event d) n ≡ false)
       → Keeps rs ram (server_face s) (wakes.Event slot) (if slot.0 == 1 then server_event s next d else stays (Server s) next)
   own_keeps d next slot b e h due range view after =
       let at : (slot.0 == 1) ≡ true = (and_parts b (slot.0 == 1) h).1 in
@@ -589,8 +629,10 @@ module _ (rs : List Route) (ram : ℕ) (s : ServerState) (ok : ServerOk rs ram s
     by_slot true a due =
         let z : slot ≡ record { 0 = 0 } = ap (λ n. let k : SlotNo = record { 0 = n } in k) (same_is slot.0 0 a) in
         let d : is_due_out s.flow.out ≡ true = subst (λ t. (if t then is_due_out s.flow.out else device_due s.device slot.0) ≡ true) a due in
-        subst (λ k. Keeps rs ram (server_face s) (wakes.Event k) (server_serves s next now s.flow.items s.flow.out)) (sym z) (by_items s.flow.items refl d) where
-          by_items : (items : List Queued) → s.flow.items ≡ items → is_due_out s.flow.out ≡ true → Keeps rs ram (server_face s) (wakes.Event (record { 0 = 0 })) (server_serves s next now items s.flow.out)
+        subst (λ k. Keeps rs ram (server_face s) (wakes.Event k) (server_serves s next now s.flow.items s.flow.out)) (sym z)
+        (by_items s.flow.items refl d) where
+          by_items : (items : List Queued) → s.flow.items ≡ items → is_due_out s.flow.out ≡ true
+              → Keeps rs ram (server_face s) (wakes.Event (record { 0 = 0 })) (server_serves s next now items s.flow.out)
           by_items [] e d = absurd (empty s.flow.out (subst (λ ys. IsFlow ys s.flow.out) e ok.lane) d) where
             empty : (out : OutState) → IsFlow [] out → is_due_out out ≡ true → ⊥
             empty Quiet v d = cc
@@ -599,26 +641,32 @@ module _ (rs : List Route) (ram : ℕ) (s : ServerState) (ok : ServerOk rs ram s
             empty Waits v d = v
           by_items (x ∷ xs) e d = server_serving next now x xs e d
   server_law next now (wakes.Offer port x) may = by_port port.0 (may.there port.0 (omega (arith, only_self port.0 1))) may where
-    by_port : (p : ℕ) → p < 1 → MayWake (server_face s) (wakes.Offer (record { 0 = p }) x) → Keeps rs ram (server_face s) (wakes.Offer (record { 0 = p }) x) (server_step s next (wakes.Offer (record { 0 = p }) x) now)
+    by_port : (p : ℕ) → p < 1 → MayWake (server_face s) (wakes.Offer (record { 0 = p }) x)
+        → Keeps rs ram (server_face s) (wakes.Offer (record { 0 = p }) x) (server_step s next (wakes.Offer (record { 0 = p }) x) now)
     by_port zero h may = server_offered next now x may
     by_port (suc p) h may = absurd (omega arith)
   server_law next now (wakes.Taken port) may = by_port port.0 may where
-    by_port : (p : ℕ) → MayWake (server_face s) (wakes.Taken (record { 0 = p })) → Keeps rs ram (server_face s) (wakes.Taken (record { 0 = p })) (server_step s next (wakes.Taken (record { 0 = p })) now)
+    by_port : (p : ℕ) → MayWake (server_face s) (wakes.Taken (record { 0 = p }))
+        → Keeps rs ram (server_face s) (wakes.Taken (record { 0 = p })) (server_step s next (wakes.Taken (record { 0 = p })) now)
     by_port zero may = server_taken next now may
     by_port (suc p) may = absurd (omega (arith, may.told (suc p), only_self (suc p) 1))
   server_law next now (wakes.Refused port) may = by_port port.0 may where
-    by_port : (p : ℕ) → MayWake (server_face s) (wakes.Refused (record { 0 = p })) → Keeps rs ram (server_face s) (wakes.Refused (record { 0 = p })) (server_step s next (wakes.Refused (record { 0 = p })) now)
+    by_port : (p : ℕ) → MayWake (server_face s) (wakes.Refused (record { 0 = p }))
+        → Keeps rs ram (server_face s) (wakes.Refused (record { 0 = p })) (server_step s next (wakes.Refused (record { 0 = p })) now)
     by_port zero may = server_refused next now may
     by_port (suc p) may = absurd (omega (arith, may.told (suc p), only_self (suc p) 1))
   server_law next now (wakes.Retry port) may = by_port port.0 may where
-    by_port : (p : ℕ) → MayWake (server_face s) (wakes.Retry (record { 0 = p })) → Keeps rs ram (server_face s) (wakes.Retry (record { 0 = p })) (server_step s next (wakes.Retry (record { 0 = p })) now)
+    by_port : (p : ℕ) → MayWake (server_face s) (wakes.Retry (record { 0 = p }))
+        → Keeps rs ram (server_face s) (wakes.Retry (record { 0 = p })) (server_step s next (wakes.Retry (record { 0 = p })) now)
     by_port zero may = server_retry next now may
     by_port (suc p) may = absurd (omega (arith, may.retry (suc p), only_self (suc p) 1))
   server_law next now (wakes.Line b l) may =
       by_device (wakes.Line b l) next s.device no_moves [] tt (omega arith) (λ p. (refl, refl, refl, refl)) (λ n. refl) (λ n. refl) refl
-      (record { kept = queued_packets s.flow.items; before = λ f e. omega arith; after = λ f e. omega arith; numbers = λ f e. refl }) refl refl refl (λ k m. refl)
+      (record { kept = queued_packets s.flow.items; before = λ f e. omega arith; after = λ f e. omega arith; numbers = λ f e. refl }) refl refl refl
+      (λ k m. refl)
   server_law next now (wakes.AtomicDone x l) may =
-      by_device (wakes.AtomicDone x l) next s.device (record no_moves { answered = x ∷ [] }) [] tt (omega arith) (λ p. (refl, refl, refl, refl)) (λ n. refl) (λ n. refl) refl
+      by_device (wakes.AtomicDone x l) next s.device (record no_moves { answered = x ∷ [] }) [] tt (omega arith) (λ p. (refl, refl, refl, refl))
+      (λ n. refl) (λ n. refl) refl
       (record { kept = queued_packets s.flow.items; before = λ f e. omega arith; after = λ f e. omega arith; numbers = λ f e. refl }) refl refl refl
       (λ k m. omega (arith, m.done refl x l refl))
 
@@ -650,5 +698,6 @@ module _ (rs : List Route) (ram : ℕ) (s : ServerState) (ok : ServerOk rs ram s
         due : (n : ℕ) (z : Bool) → (n == 0) ≡ z → ((b : Bool) → due_after (serve s.device x now).changes b 0 ≡ b)
             → ((n : ℕ) → (n == 0) ≡ false → device_due (serve s.device x now).device n ≡ due_after (serve s.device x now).changes (device_due s.device n) n)
             → server_due (record s { device = (serve s.device x now).device }) n ≡ due_after (serve s.device x now).changes (server_due s n) n
-        due n true e own others = let is : n ≡ 0 = same_is n 0 e in subst (λ k. server_due (record s { device = (serve s.device x now).device }) k ≡ due_after (serve s.device x now).changes (server_due s k) k) (sym is) (sym (own _))
+        due n true e own others =
+            let is : n ≡ 0 = same_is n 0 e in subst (λ k. server_due (record s { device = (serve s.device x now).device }) k ≡ due_after (serve s.device x now).changes (server_due s k) k) (sym is) (sym (own _))
         due n false e own others = rw e (others n e)

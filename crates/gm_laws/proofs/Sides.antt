@@ -57,8 +57,10 @@ module _ (n : ℕ) where
   }
 
   -- a step of the others, and of the lane as well
-  pub sided_law : (f g : Face) (a b : Lane) (route to : Packet → ℕ) (w : Wake) (answer : Answer) (list more : List Act) → Law f w g answer list → SideMoved a b more → ((x : Packet) → to x ≡ route x)
-      → ((q : ℕ) (x : Packet) → w ≡ wakes.Offer (record { 0 = q }) x → (route x ≡ f.route x) × (route x ≡ n → ⊥)) → Law (with_side n f a route) w (with_side n g b to) answer (more ++ list)
+  pub sided_law : (f g : Face) (a b : Lane) (route to : Packet → ℕ) (w : Wake) (answer : Answer) (list more : List Act) → Law f w g answer list
+      → SideMoved a b more → ((x : Packet) → to x ≡ route x)
+      → ((q : ℕ) (x : Packet) → w ≡ wakes.Offer (record { 0 = q }) x → (route x ≡ f.route x) × (route x ≡ n → ⊥))
+      → Law (with_side n f a route) w (with_side n g b to) answer (more ++ list)
   sided_law f g a b route to w answer list more law side same routes =
       record {
         ok = side_ok g b to law.ok;
@@ -94,12 +96,14 @@ module _ (n : ℕ) where
         feeds : (q : ℕ) (x : Packet) → w ≡ wakes.Offer (record { 0 = q }) x → (g.hungry (route x) || (route x == n && is_hungry 1 b)) ≡ false
         feeds q x o =
             let r = routes q x o in
-            or_none (g.hungry (route x)) (route x == n && is_hungry 1 b) (subst (λ k. g.hungry k ≡ false) (sym r.0) (law.feeds q x o)) (other (route x == n) (is_hungry 1 b) refl r.1) where
+            or_none (g.hungry (route x)) (route x == n && is_hungry 1 b) (subst (λ k. g.hungry k ≡ false) (sym r.0) (law.feeds q x o))
+            (other (route x == n) (is_hungry 1 b) refl r.1) where
               other : (b c : Bool) → (route x == n) ≡ b → (route x ≡ n → ⊥) → (b && c) ≡ false
               other true c e m = absurd (m (same_is (route x) n e))
               other false c e m = refl
 
-        wants : (k : ℕ) → (g.hungry k ≡ true) ⊎ ((k == n && is_hungry 1 b) ≡ true) → ((f.hungry k || (k == n && is_hungry 1 a)) ≡ true) ⊎ CallsOne (with_side n f a route) (more ++ list) k
+        wants : (k : ℕ) → (g.hungry k ≡ true) ⊎ ((k == n && is_hungry 1 b) ≡ true)
+            → ((f.hungry k || (k == n && is_hungry 1 a)) ≡ true) ⊎ CallsOne (with_side n f a route) (more ++ list) k
         wants k (inl h) = by (law.hungry k h) where
           by : (f.hungry k ≡ true) ⊎ CallsOne f list k → ((f.hungry k || (k == n && is_hungry 1 a)) ≡ true) ⊎ CallsOne (with_side n f a route) (more ++ list) k
           by (inl t) = inl (or_left (f.hungry k) (k == n && is_hungry 1 a) t)
@@ -108,12 +112,15 @@ module _ (n : ℕ) where
           same_lane : k ≡ n
           same_lane = same_is k n (and_parts (k == n) (is_hungry 1 b) h).0
 
-          by : (is_hungry 1 a ≡ true) ⊎ ((r : ℕ) × (1 ≤ stood r a.waiting) × (1 ≤ calls r more)) → ((f.hungry k || (k == n && is_hungry 1 a)) ≡ true) ⊎ CallsOne (with_side n f a route) (more ++ list) k
+          by : (is_hungry 1 a ≡ true) ⊎ ((r : ℕ) × (1 ≤ stood r a.waiting) × (1 ≤ calls r more))
+              → ((f.hungry k || (k == n && is_hungry 1 a)) ≡ true) ⊎ CallsOne (with_side n f a route) (more ++ list) k
           by (inl t) = inl (or_right (f.hungry k) (k == n && is_hungry 1 a) (and_from (k == n) (is_hungry 1 a) (and_parts (k == n) (is_hungry 1 b) h).0 t))
-          by (inr r) = inr (record { port = r.0; stood = omega (arith, r.1, only_same n k (stood r.0 a.waiting) (sym same_lane)); called = omega (arith, r.2, calls-append r.0 more list) })
+          by (inr r) =
+              inr (record { port = r.0; stood = omega (arith, r.1, only_same n k (stood r.0 a.waiting) (sym same_lane)); called = omega (arith, r.2, calls-append r.0 more list) })
 
   -- an offer to the lane itself
-  pub side_offer : (f g : Face) (a b : Lane) (route to : Packet → ℕ) (q : ℕ) (x : Packet) (answer : Answer) → FaceOk g → IsPortSame f g → f.hungry n ≡ false → ((y : Packet) → to y ≡ route y) → route x ≡ n
+  pub side_offer : (f g : Face) (a b : Lane) (route to : Packet → ℕ) (q : ℕ) (x : Packet) (answer : Answer) → FaceOk g → IsPortSame f g
+      → f.hungry n ≡ false → ((y : Packet) → to y ≡ route y) → route x ≡ n
       → ((p : ℕ) → stood p b.waiting ≡ stood p a.waiting + rejected (wakes.Offer (record { 0 = q }) x) answer p) → is_hungry 1 b ≡ false
       → Law (with_side n f a route) (wakes.Offer (record { 0 = q }) x) (with_side n g b to) answer []
   side_offer f g a b route to q x answer ok e calm same there listed full =
@@ -136,7 +143,8 @@ module _ (n : ℕ) where
       } where
         feeds : (y : Packet) → x ≡ y → (g.hungry (route y) || (route y == n && is_hungry 1 b)) ≡ false
         feeds y k =
-            or_none (g.hungry (route y)) (route y == n && is_hungry 1 b) (subst (λ j. g.hungry j ≡ false) (sym (sym (ap route k) ∙ there)) (e.hungry n ∙ calm)) (and_none (route y == n) (is_hungry 1 b) full)
+            or_none (g.hungry (route y)) (route y == n && is_hungry 1 b)
+            (subst (λ j. g.hungry j ≡ false) (sym (sym (ap route k) ∙ there)) (e.hungry n ∙ calm)) (and_none (route y == n) (is_hungry 1 b) full)
 
         wants : (k : ℕ) → (g.hungry k ≡ true) ⊎ ((k == n && is_hungry 1 b) ≡ true) → f.hungry k ≡ true
         wants k (inl h) = sym (e.hungry k) ∙ h
@@ -149,7 +157,8 @@ module _ (n : ℕ) where
             → (1 ≤ f.stands k p + only n k (stood p a.waiting)) ⊎ Joins (with_side n f a route) (wakes.Offer (record { 0 = q }) x) answer k p
         joins k p h (inr m) = inl (omega (arith, e.stands k p, only_other n k (stood p b.waiting) m))
         joins k p h (inl s) = by (cases_lt 0 (f.stands k p + stood p a.waiting)) where
-          by : (0 < f.stands k p + stood p a.waiting) ⊎ (f.stands k p + stood p a.waiting ≤ 0) → (1 ≤ f.stands k p + only n k (stood p a.waiting)) ⊎ Joins (with_side n f a route) (wakes.Offer (record { 0 = q }) x) answer k p
+          by : (0 < f.stands k p + stood p a.waiting) ⊎ (f.stands k p + stood p a.waiting ≤ 0)
+              → (1 ≤ f.stands k p + only n k (stood p a.waiting)) ⊎ Joins (with_side n f a route) (wakes.Offer (record { 0 = q }) x) answer k p
           by (inl t) = inl (omega (arith, only_same n k (stood p a.waiting) s))
           by (inr z) =
               let out : 1 ≤ rejected (wakes.Offer (record { 0 = q }) x) answer p = omega (arith, listed p, e.stands k p, only_same n k (stood p b.waiting) s) in

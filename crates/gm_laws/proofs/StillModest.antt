@@ -25,7 +25,8 @@ stays_modest o next w now h = record {
 }
 
 -- what is consumed beside it, and the answer, change nothing of it
-pub answered_modest : (o : ObjState) (next : ℕ) (w : Wake) (now : ℕ) (p : Packet) (a : Answer) (r : Stepped) → IsModest o next w now r → IsModest o next w now (record (answering p r) { answer = a })
+pub answered_modest : (o : ObjState) (next : ℕ) (w : Wake) (now : ℕ) (p : Packet) (a : Answer) (r : Stepped) → IsModest o next w now r
+    → IsModest o next w now (record (answering p r) { answer = a })
 answered_modest o next w now p a r m = record {
   object = m.object;
   slots = m.slots;
