@@ -5,7 +5,7 @@ ghost use Rattle.rv_step.specs.Demand.{need as need_of};
 ghost use Rattle.rv_step.specs.Trap.{interrupt_cause};
 ghost use Rattle.gm_model.specs.TimingCpu.{tcpu_begins, tcpu_demands, tcpu_fetched, tcpu_accessed};
 ghost use Rattle.gm_model.specs.Flows.{offer_at};
-ghost use Rattle.gm_words.specs.Platform.{data_port, is_in_ram};
+ghost use Rattle.gm_words.specs.Platform.{data_port, fetch_port, is_in_ram};
 ghost use Rattle.obj_core.specs.Out.{HasRoom, extended};
 ghost use Rattle.obj_core.specs.Step.{Takes};
 
@@ -58,11 +58,7 @@ impl Sequencer {
         let pc = a.pc;
         if packets::in_ram(self.ram, pc, 4) {
             let pkt = packets::fetch(out.fresh(), pc);
-            out.push(Act::Offer {
-                port: FETCH_PORT,
-                pkt,
-            });
-            self.stage = Stage::Fetch(Hand::Asks(pkt));
+            self.offers_fetch(&pkt, out);
         } else {
             self.traps(a, now, INSTRUCTION_ACCESS, pc, q, out);
         }
@@ -79,19 +75,33 @@ impl Sequencer {
         match demand(a, word, &inst) {
             Demand::Load { addr, size } => {
                 let pkt = packets::load(out.fresh(), self.ram, addr, size);
-                self.accesses(word, &pkt, out);
+                self.offers_access(word, &pkt, out);
             }
             Demand::Store { addr, size, value } => {
                 let pkt = packets::store(out.fresh(), self.ram, addr, size, value);
-                self.accesses(word, &pkt, out);
+                self.offers_access(word, &pkt, out);
             }
             Demand::Nothing | Demand::Sleep | Demand::Trap { .. } => {}
         }
     }
 
+    /// The fetch is offered.
+    #[inline(always)]
+    pub(crate) fn offers_fetch(&mut self, p: &Packet, out: &mut Outbox)
+        requires room { length out.old.items < 272 }
+        ensures stage { self.new ≡ record self.old { stage = stages.Fetch (hands.Asks p.now) } }
+        ensures out { out.new ≡ extended out.old (offer_at fetch_port p.now ∷ []) [] out.old.next }
+    {
+        out.push(Act::Offer {
+            port: FETCH_PORT,
+            pkt: *p,
+        });
+        self.stage = Stage::Fetch(Hand::Asks(*p));
+    }
+
     /// The data access of the word is offered.
     #[inline(always)]
-    fn accesses(&mut self, word: u32, p: &Packet, out: &mut Outbox)
+    pub(crate) fn offers_access(&mut self, word: u32, p: &Packet, out: &mut Outbox)
         requires room { length out.old.items < 272 }
         ensures stage { self.new ≡ record self.old { stage = stages.Data word (hands.Asks p.now) } }
         ensures out { out.new ≡ extended out.old (offer_at data_port p.now ∷ []) [] out.old.next }

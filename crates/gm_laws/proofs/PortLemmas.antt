@@ -41,7 +41,10 @@ past_side us n e h = by (is_total us) e where
 
 -- the layer of no port has its slot where not all addresses have a port
 pub side_is : (us : List PortUse) (n : ℕ) → is_side_slot us n ≡ true → (is_total us ≡ false) × (n ≡ side_slot us)
-side_is us n e = (by (is_total us) (and_parts (not (is_total us)) (n == behind us) e).0, same_is n (behind us) (and_parts (not (is_total us)) (n == behind us) e).1) where
+side_is us n e = (
+  by (is_total us) (and_parts (not (is_total us)) (n == behind us) e).0,
+  same_is n (behind us) (and_parts (not (is_total us)) (n == behind us) e).1,
+) where
   by : (t : Bool) → not t ≡ true → t ≡ false
   by true f = cc
   by false f = refl
@@ -103,14 +106,20 @@ length-xbar_classes us =
 request_at : (us : List PortUse) (n : ℕ) → n < behind us + sides us → slice_get (xbar_classes us) n ≡ Some request_class
 request_at us n h =
     slice_get_read (xbar_classes us) (length us + sides us) n request_class (sym (length-xbar_classes us)) (omega (arith, h, fore_le us))
-    (sym (get_or-append (replicate (behind us + sides us) request_class) (replicate (fore us) response_class) request_class n (omega (arith, h, length-replicate (behind us + sides us) request_class))
+    (sym (get_or-append (replicate (behind us + sides us) request_class) (replicate (fore us) response_class) request_class n
+    (omega (arith, h, length-replicate (behind us + sides us) request_class))
     ∙ get_or-replicate (behind us + sides us) n request_class request_class h))
 
 response_at : (us : List PortUse) (p : ℕ) → p < fore us → slice_get (xbar_classes us) (behind us + sides us + p) ≡ Some response_class
 response_at us p h =
-    let at : behind us + sides us + p - length (replicate (behind us + sides us) request_class) ≡ p = omega (arith, length-replicate (behind us + sides us) request_class) in
-    slice_get_read (xbar_classes us) (length us + sides us) (behind us + sides us + p) response_class (sym (length-xbar_classes us)) (omega (arith, h, fore_le us))
-    (sym (get_or-append_right (replicate (behind us + sides us) request_class) (replicate (fore us) response_class) (behind us + sides us) (behind us + sides us + p) response_class (length-replicate (behind us + sides us) request_class) (omega arith)
+    let at : behind us + sides us + p - length (replicate (behind us + sides us) request_class) ≡ p = omega (
+      arith,
+      length-replicate (behind us + sides us) request_class,
+    ) in
+    slice_get_read (xbar_classes us) (length us + sides us) (behind us + sides us + p) response_class (sym (length-xbar_classes us))
+    (omega (arith, h, fore_le us))
+    (sym (get_or-append_right (replicate (behind us + sides us) request_class) (replicate (fore us) response_class) (behind us + sides us)
+    (behind us + sides us + p) response_class (length-replicate (behind us + sides us) request_class) (omega arith)
     ∙ get_or-replicate (fore us) (behind us + sides us + p - (behind us + sides us)) response_class response_class (omega (arith, h))))
 
 -- the slot of a port has the port's class
@@ -152,7 +161,8 @@ takes_each uses.Source a e = cc
 takes_each uses.Unused a e = cc
 takes_each (uses.Destination first last) a e =
     let parts = and_parts (first == 0) (last == last_address) e in
-    and_from (nat_le first a) (nat_le a last || (last == last_address)) (least first (same_is first 0 parts.0)) (or_right (nat_le a last) (last == last_address) parts.1) where
+    and_from (nat_le first a) (nat_le a last || (last == last_address)) (least first (same_is first 0 parts.0))
+    (or_right (nat_le a last) (last == last_address) parts.1) where
       least : (n : ℕ) → n ≡ 0 → nat_le n a ≡ true
       least n z = le-leb n a (omega (arith, z))
 
@@ -188,7 +198,8 @@ source_in : (k : ℕ) (us : List PortUse) (p : ℕ) → source_from k us ≡ Som
 unfolding source_from
 source_in k [] p e = absurd (let z : ◌≡◌ {A = Option ℕ} None (Some p) = e in cc)
 source_in k (u ∷ us) p e = by (is_source u) refl (source_in (suc k) us p) where
-  by : (b : Bool) → is_source u ≡ b → (source_from (suc k) us ≡ Some p → (d : ℕ) × (p ≡ suc k + d) × (d < length us)) → (d : ℕ) × (p ≡ k + d) × (d < length (u ∷ us))
+  by : (b : Bool) → is_source u ≡ b → (source_from (suc k) us ≡ Some p → (d : ℕ) × (p ≡ suc k + d) × (d < length us))
+      → (d : ℕ) × (p ≡ k + d) × (d < length (u ∷ us))
   by true f more =
       let s : ◌≡◌ {A = Option ℕ} (Some k) (Some p) = subst (λ b. cond b (Some k) (source_from (suc k) us) ≡ Some p) f e in
       let n : k ≡ p = cc s in (0, omega (arith, n), omega arith)

@@ -183,11 +183,12 @@ StageOk (Data w h) = hand_core 1 h
 
 -- crossbar
 
--- the event of a layer is pending at its slot, and at no other
+-- the event of the layer of the port with this slot is pending; there are no slots but those of the layers
+abbrev pub port_due : XbarState → ℕ → Bool
+port_due s n = nat_lt n (length s.ports + sides s.ports) && is_due_out (lane_at s.lanes (port_of_slot s.ports n)).flow.out
+
 abbrev pub layer_due : XbarState → ℕ → Bool
-layer_due s n =
-    if is_side_slot s.ports n then is_due_out s.side.lane.flow.out
-    else (nat_lt n (length s.ports + sides s.ports) && is_due_out (lane_at s.lanes (port_of_slot s.ports n)).flow.out)
+layer_due s n = if is_side_slot s.ports n then is_due_out s.side.lane.flow.out else port_due s n
 
 -- what may be offered at a port: responses where requests come in, and requests to the addresses that go out there
 abbrev pub goes_out : PortUse → Packet → Bool
