@@ -1,3 +1,4 @@
 pub mod WaitingLemmas
 pub mod HandleLemmas
 pub mod LayerLemmas
+pub mod StayLemmas
