@@ -2,3 +2,4 @@ pub mod WaitingLemmas
 pub mod HandleLemmas
 pub mod LayerLemmas
 pub mod StayLemmas
+pub mod StepLemmas

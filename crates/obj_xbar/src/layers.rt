@@ -121,6 +121,7 @@ impl Layers {
     }
 
     /// A packet is offered at a port: it is taken where the place of its layer is free.
+    #[tactic(auto, using(crate::proofs::LayerLemmas::layer_within), unfolding(gm_model::specs::Xbar::layer_of))]
     fn offered(
         &mut self,
         port: PortNo,
@@ -219,7 +220,7 @@ impl Layers {
     }
 
     /// The event of a layer: its packet is offered, or, where its address is of no port, refused by fault.
-    #[tactic(auto, using(obj_core::proofs::StepLemmas::ask_changes))]
+    #[tactic(auto, using(obj_core::proofs::StepLemmas::ask_changes, crate::proofs::StepLemmas::nothing_there))]
     fn event(&mut self, slot: SlotNo, now: Tick, q: &mut EventQueue, out: &mut Outbox)
         requires tick { now ≤ TOP }
         requires room { HasRoom out.old }
@@ -238,6 +239,7 @@ impl Layers {
     }
 
     /// The offer at a port was taken: the first that waits for its layer is called, or it is the layer of no port.
+    #[tactic(auto, using(crate::proofs::StepLemmas::next_is, crate::proofs::StepLemmas::less_ahead, crate::proofs::StepLemmas::same_ahead, crate::proofs::StepLemmas::opened_one))]
     fn taken(&mut self, port: PortNo, now: Tick, q: &mut EventQueue, out: &mut Outbox)
         requires port { port.0 < length self.old.ports.uses }
         requires tick { now ≤ TOP }
@@ -306,7 +308,7 @@ fn empty_lanes(alloc: Global, count: usize) -> Result<Vec<Lane>, NoMemory>
     ensures { IfOk result (λ ls. ls.items ≡ replicate count empty_lane) }
 {
     let mut lanes = Vec::with_capacity(alloc, count)?;
-    for _port in 0..count {
+    while lanes.len() < count {
         lanes.push(Lane::new(alloc)?)?;
     }
     Ok(lanes)

@@ -1,5 +1,5 @@
 // Who waits for room in a layer.
-ghost use Rattle.std.specs.Prelude.{◌≡◌, ◌<◌, [], ◌∷◌, length, IfSome, IfNone};
+ghost use Rattle.std.specs.Prelude.{◌≡◌, ◌<◌, ◌≤◌, [], ◌∷◌, length, IfSome, IfNone};
 ghost use Rattle.gm_model.specs.Flows.{is_listed, joined_once};
 
 use arrayvec::ArrayVec;
@@ -37,8 +37,10 @@ impl Waiting {
     }
 
     /// How many ports wait.
+    #[tactic(auto, using(crate::proofs::WaitingLemmas::at_most))]
     pub(crate) fn len(&self) -> usize
-        ensures { result ≡ length self.now }
+        ensures value { result ≡ length self.now }
+        ensures most { result ≤ 8 }
     {
         self.ports.len()
     }
