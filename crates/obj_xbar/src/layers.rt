@@ -15,7 +15,6 @@ ghost use Rattle.obj_core.specs.Handles.{handles_from};
 ghost use Rattle.obj_core.specs.May.{MayWakeXbar, HasPlace};
 ghost use Rattle.obj_core.specs.Out.{HasRoom, extended};
 ghost use Rattle.obj_core.specs.Step.{Takes, Answers};
-ghost use Rattle.obj_xbar.specs.Shown.{xbar_state};
 
 use crate::lane::Lane;
 use crate::ports::Ports;
@@ -48,6 +47,8 @@ pub struct Layers {
 }
 
 impl Layers {
+    ghost use Rattle.obj_xbar.specs.Shown.{xbar_state};
+
     // Set-up.
 
     /// A crossbar at its start: in atomic mode, draining, and with nothing in its layers.
