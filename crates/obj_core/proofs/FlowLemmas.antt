@@ -172,3 +172,17 @@ older p (x ∷ xs) (suc n) a c b h = more (packet_at p x.key) (older p xs n a c 
 pub newest_found : (p : Pooled) (xs : List Place) (n a c : ℕ) (d : Place) (y : Packet) → n < length xs → packet_at p (get_or xs n d).key ≡ Some y → covers y a ≡ true
     → queued_bytes (queued p (drop (n + 1) xs)) a c ≡ None → queued_bytes (queued p xs) a c ≡ Some (take c (drop (a - y.addr) (carried_bytes y)))
 newest_found p xs n a c d y l e v h = older p xs n a c _ (rw (drop_more xs n d l) (rw e (rw h (rw v refl))))
+
+-- each has bytes for its whole size
+pub fits_at : (p : Pooled) (xs : List Place) (n : ℕ) (d : Place) (y : Packet) → AreHeld p xs → n < length xs → packet_at p (get_or xs n d).key ≡ Some y → MayPass y
+fits_at p [] n d y h l e = absurd (omega (arith, l))
+fits_at p (x ∷ xs) zero d y h l e = subst (λ o. IsSomeAnd o MayPass) e h.0
+fits_at p (x ∷ xs) (suc n) d y h l e = fits_at p xs n d y h.2 (omega (arith, l)) e
+
+pub newest_below : (p : Pooled) (xs : List Place) (n m a c : ℕ) (d : Place) (y : Packet) → n + 1 ≡ m → m ≤ length xs → Some y ≡ packet_at p (get_or xs n d).key
+    → covers y a ≡ true → queued_bytes (queued p (drop m xs)) a c ≡ None → queued_bytes (queued p xs) a c ≡ Some (take c (drop (a - y.addr) (carried_bytes y)))
+newest_below p xs n m a c d y s l e v h =
+    newest_found p xs n a c d y (omega (arith, s, l)) (sym e) v (ap (λ k. queued_bytes (queued p (drop k xs)) a c) s ∙ h)
+
+pub newest_fits : (p : Pooled) (xs : List Place) (n m : ℕ) (d : Place) (y : Packet) → AreHeld p xs → n + 1 ≡ m → m ≤ length xs → Some y ≡ packet_at p (get_or xs n d).key → MayPass y
+newest_fits p xs n m d y h s l e = fits_at p xs n d y h (omega (arith, s, l)) (sym e)

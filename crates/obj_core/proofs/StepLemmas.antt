@@ -2,11 +2,23 @@
 use Rattle.std.proofs.Common.{◌≡◌, ℕ, refl, Bool, true, false, List, [], ◌∷◌}
 use Rattle.gm_words.specs.Flow.{Flow, Queued, OutState, Quiet, Due, Asked, Waits}
 use Rattle.gm_words.specs.declared.packet.Packet.{Packet}
+use Rattle.obj_core.specs.Kept.{outlet_of}
 use Rattle.gm_model.specs.Flows.{Outlet, Moved, still, put_in, ask_in, hold_in, again_in, gone_in, open_in}
 
 pub put_acts : (o : Outlet) (x : Packet) (ready : ℕ) (items : List Queued) (out : OutState) → (put_in o x ready items out).acts ≡ []
 put_acts o x ready [] out = refl
 put_acts o x ready (y ∷ ys) out = refl
+
+-- at which port it is offered doesn't matter yet
+pub put_flow : (p slot class : ℕ) (x : Packet) (ready : ℕ) (items : List Queued) (out : OutState)
+    → (put_in (record { port = p; slot = slot; class = class }) x ready items out).flow ≡ (put_in (outlet_of slot class) x ready items out).flow
+put_flow p slot class x ready [] out = refl
+put_flow p slot class x ready (y ∷ ys) out = refl
+
+pub put_changes : (p slot class : ℕ) (x : Packet) (ready : ℕ) (items : List Queued) (out : OutState)
+    → (put_in (record { port = p; slot = slot; class = class }) x ready items out).changes ≡ (put_in (outlet_of slot class) x ready items out).changes
+put_changes p slot class x ready [] out = refl
+put_changes p slot class x ready (y ∷ ys) out = refl
 
 pub gone_acts : (o : Outlet) (at : ℕ) (items : List Queued) → (gone_in o at items).acts ≡ []
 gone_acts o at [] = refl

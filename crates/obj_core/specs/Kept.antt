@@ -4,7 +4,7 @@ use Rattle.gm_words.specs.Allowed.{MayPass}
 use Rattle.gm_words.specs.Flow.{Flow, Queued, OutState, Quiet, Due, Asked, Waits}
 use Rattle.gm_words.specs.declared.act.Act.{Act}
 use Rattle.gm_words.specs.declared.packet.Packet.{Packet}
-use Rattle.gm_model.specs.Flows.{offer_at}
+use Rattle.gm_model.specs.Flows.{Outlet, offer_at}
 use Rattle.pkt_pool.specs.Pooled.{Pooled, packet_at, count}
 use Rattle.obj_core.specs.declared.flow.Head.{Head}
 use Rattle.obj_core.specs.declared.flow.Head.TheVariants as heads
@@ -22,6 +22,11 @@ out_of heads.Due = Due
 out_of heads.Asked = Asked
 out_of heads.Waits = Waits
 
+-- where a flow goes out, by the slot of its event and the slot's class; at which port doesn't matter to what comes in and goes
+abbrev pub outlet_of : ℕ → ℕ → Outlet
+outlet_of slot class = record { port = 0; slot = slot; class = class }
+
+-- its first packet was refused, and waits
 abbrev pub is_waiting : OutState → Bool
 is_waiting Quiet = false
 is_waiting Due = false

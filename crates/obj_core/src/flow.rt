@@ -1,5 +1,5 @@
 // What a part has to send from one port: the packets in order, and how the first of them stands.
-ghost use Rattle.std.specs.Prelude.{◌≡◌, ℕ, ◌-◌, ◌<◌, ◌≤◌, ◌==◌, [], ◌∷◌, ◌++◌, length, take, drop, nat_lt, IfOk, IfSome, IsTrue, is_some, option_copied};
+ghost use Rattle.std.specs.Prelude.{◌≡◌, ◌-◌, ◌<◌, ◌≤◌, ◌==◌, [], ◌∷◌, ◌++◌, length, take, drop, nat_lt, IfOk, IfSome, IsTrue, is_some, option_copied};
 ghost use Rattle.ev_queue.specs.SlotTable.{gave};
 ghost use Rattle.gm_words.specs.Allowed.{MayPass};
 ghost use Rattle.gm_words.specs.Changes.{changed};
@@ -8,7 +8,7 @@ ghost use Rattle.gm_words.specs.Packet.{carried_bytes, read_response};
 ghost use Rattle.gm_model.specs.Flows.{head_of, is_due_out, put_in, ask_in, hold_in, again_in, gone_in};
 ghost use Rattle.gm_model.specs.Memory.{queued_bytes, covers};
 ghost use Rattle.gm_model.specs.Xbar.{read_of};
-ghost use Rattle.obj_core.specs.Kept.{is_waiting, with_first, with_front, offered, offers};
+ghost use Rattle.obj_core.specs.Kept.{is_waiting, outlet_of, with_first, with_front, offered, offers};
 ghost use Rattle.obj_core.specs.Out.{extended};
 
 use crate::outbox::Outbox;
@@ -124,12 +124,12 @@ impl Flow {
         requires room { length self.old.flow.items < self.old.places }
         requires size { MayPass p.now }
         requires known { IsTrue (gave q.old.table event.now.owner event.now.slot CLASS) }
-        ensures flow { (port : ℕ) → self.new ≡ record self.old {
-          flow = (put_in (record { port = port; slot = event.now.slot; class = CLASS }) p.now ready self.old.flow.items self.old.flow.out).flow;
+        ensures flow { self.new ≡ record self.old {
+          flow = (put_in (outlet_of event.now.slot CLASS) p.now ready self.old.flow.items self.old.flow.out).flow;
         } }
-        ensures events { (port : ℕ) → q.new ≡ record q.old {
+        ensures events { q.new ≡ record q.old {
           pending = changed event.now.owner q.old.pending
-              (put_in (record { port = port; slot = event.now.slot; class = CLASS }) p.now ready self.old.flow.items self.old.flow.out).changes;
+              (put_in (outlet_of event.now.slot CLASS) p.now ready self.old.flow.items self.old.flow.out).changes;
         } }
     {
         if self.queue.is_empty() {
@@ -162,12 +162,9 @@ impl Flow {
         q: &mut EventQueue,
     )
         requires known { IsTrue (gave q.old.table event.now.owner event.now.slot CLASS) }
-        ensures flow { (port : ℕ) → self.new ≡ record self.old {
-          flow = (gone_in (record { port = port; slot = event.now.slot; class = CLASS }) next self.old.flow.items).flow;
-        } }
-        ensures events { (port : ℕ) → q.new ≡ record q.old {
-          pending = changed event.now.owner q.old.pending
-              (gone_in (record { port = port; slot = event.now.slot; class = CLASS }) next self.old.flow.items).changes;
+        ensures flow { self.new ≡ record self.old { flow = (gone_in (outlet_of event.now.slot CLASS) next self.old.flow.items).flow } }
+        ensures events { q.new ≡ record q.old {
+          pending = changed event.now.owner q.old.pending (gone_in (outlet_of event.now.slot CLASS) next self.old.flow.items).changes;
         } }
     {
         self.take_first();

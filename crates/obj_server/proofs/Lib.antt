@@ -1,2 +1,3 @@
 pub mod NotedBytes
 pub mod Serves
+pub mod Waiters

@@ -72,7 +72,7 @@ impl<D: Device> Configured<D> {
     // Offers.
 
     /// A request is offered: it is taken where there is a place for it.
-    #[tactic(auto, using(obj_core::proofs::StepLemmas::put_acts))]
+    #[tactic(auto, using(crate::proofs::Waiters::waiter_kept, crate::proofs::Waiters::waiter_joined, obj_core::proofs::StepLemmas::put_acts))]
     pub(crate) fn offered(
         &mut self,
         p: &Packet,
@@ -104,7 +104,7 @@ impl<D: Device> Configured<D> {
     // Its event.
 
     /// The first request is served: its response is offered, or it is gone, where it has none.
-    #[tactic(auto, using(crate::proofs::Serves::few_acts, obj_core::proofs::StepLemmas::ask_changes))]
+    #[tactic(auto, using(crate::proofs::Serves::few_acts, crate::proofs::Waiters::waiter_kept, obj_core::proofs::StepLemmas::ask_changes))]
     pub(crate) fn serves(&mut self, now: Tick, q: &mut EventQueue, out: &mut Outbox)
         requires tick { now ≤ TOP }
         requires room { HasRoom out.old }
@@ -130,7 +130,7 @@ impl<D: Device> Configured<D> {
     // Wakes.
 
     /// Its step rule.
-    #[tactic(auto, using(obj_core::proofs::StepLemmas::hold_acts, obj_core::proofs::StepLemmas::hold_changes, obj_core::proofs::StepLemmas::again_changes))]
+    #[tactic(auto, using(crate::proofs::Waiters::waiter_kept, obj_core::proofs::StepLemmas::hold_acts, obj_core::proofs::StepLemmas::hold_changes, obj_core::proofs::StepLemmas::again_changes))]
     pub(crate) fn wake(
         &mut self,
         w: &Wake,

@@ -52,8 +52,9 @@ impl<D: Device> SimObject for Served<D> {
             places,
             device,
         } = D::start(alloc, params)?;
+        let server = Server::start(alloc, params, latency, places)?;
         self.inner = Some(Configured {
-            server: Server::start(alloc, params, latency, places)?,
+            server,
             device,
             slots: handles.device,
         });

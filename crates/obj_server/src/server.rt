@@ -5,7 +5,6 @@ ghost use Rattle.gc_base.specs.declared.limits.TheConstants.{LATENCY_MAX};
 ghost use Rattle.gm_words.specs.Changes.{changed};
 ghost use Rattle.gm_model.specs.Flows.{is_some_port};
 ghost use Rattle.obj_core.specs.Out.{extended};
-ghost use Rattle.obj_server.specs.Server.{gone_first, called};
 
 use ev_queue::{EventHandle, EventQueue};
 use gc_base::limits::TOP;
@@ -37,7 +36,7 @@ pub(crate) struct Server {
 }
 
 impl Server {
-    ghost use Rattle.obj_server.specs.Server.{server_of};
+    ghost use Rattle.obj_server.specs.Server.{server_of, gone_first, called};
     ghost use Rattle.gm_model.specs.ObjState.{Device};
     ghost use Rattle.gm_model.specs.Server.{server_start};
 

@@ -1,10 +1,10 @@
 -- The handles of a crossbar's layers.
 use Rattle.std.proofs.Common.{◌≡◌, ℕ, suc, zero, ◌+◌, ◌-◌, ◌≤◌, ◌<◌, ◌==◌, ◌&&◌, refl, sym, ◌∙◌, ap, arith, subst, Bool, true, false, IsTrue, if◌then◌else◌, List, [], ◌∷◌, ◌++◌, length, replicate, get_or, nat_lt}
-use Rattle.std.proofs.lemmas.Bool.{cases_eq}
+use Rattle.std.proofs.lemmas.Bool.{lt-ltb, le-ltb}
 use Rattle.ev_queue.specs.Handle.{Handle}
 use Rattle.ev_queue.specs.SlotTable.{gave}
 use Rattle.ev_queue.specs.declared.slot.Slot.{Slot}
-use Rattle.gm_words.specs.PortUses.{fore, behind, sides, xbar_classes, slot_of_port, request_class, response_class}
+use Rattle.gm_words.specs.PortUses.{fore, behind, sides, xbar_classes, slot_of_port, class_of_port, is_total}
 use Rattle.gm_words.specs.Slots.{gave_from}
 use Rattle.gm_words.specs.declared.port_use.PortUse.{PortUse}
 use Rattle.obj_core.specs.Handles.{handles_from}
@@ -96,3 +96,24 @@ pub response_given : (t : List Slot) (o : ℕ) (us : List PortUse) (p : ℕ) →
 response_given t o us p g l =
     ap (λ k. gave t o k 0) (omega arith)
     ∙ responses_given t o (0 + (behind us + sides us)) (fore us) p (behind_given t o 0 (behind us + sides us) (replicate (fore us) 0) g) l
+
+-- The slot and the class of a port's layer.
+
+pub slot_before : (us : List PortUse) (p : ℕ) → p < fore us → slot_of_port us p ≡ behind us + sides us + p
+slot_before us p l = rw (lt-ltb p (fore us) l) refl
+
+pub slot_after : (us : List PortUse) (p : ℕ) → fore us ≤ p → slot_of_port us p ≡ p - fore us
+slot_after us p l = rw (le-ltb p (fore us) l) refl
+
+pub class_before : (us : List PortUse) (p : ℕ) → p < fore us → class_of_port us p ≡ 0
+class_before us p l = rw (lt-ltb p (fore us) l) refl
+
+pub class_after : (us : List PortUse) (p : ℕ) → fore us ≤ p → class_of_port us p ≡ 10
+class_after us p l = rw (le-ltb p (fore us) l) refl
+
+pub layer_given : (t : List Slot) (o : ℕ) (us : List PortUse) (p : ℕ) → IsTrue (gave_from t o 0 (xbar_classes us)) → p < fore us → IsTrue (gave t o (slot_of_port us p) 0)
+layer_given t o us p g l = rw (slot_before us p l) (response_given t o us p g l)
+
+-- where some address has no port, the layer of no port has a slot
+pub side_there : (us : List PortUse) → is_total us ≡ false → behind us < behind us + sides us
+side_there us h = rw h (omega arith)

@@ -1,3 +1,5 @@
 pub mod WaitingLemmas
 pub mod HandleLemmas
 pub mod LayerLemmas
+pub mod StayLemmas
+pub mod StepLemmas

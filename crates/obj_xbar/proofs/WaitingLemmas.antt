@@ -1,7 +1,7 @@
 -- Ports that stand in a list once are few.
-use Rattle.std.proofs.Common.{◌≡◌, ◌≢◌, ℕ, suc, zero, ◌+◌, ◌≤◌, ◌<◌, ◌==◌, ◌||◌, refl, sym, ◌∙◌, ap, arith, subst, eq-eqb, ne_eqb, Bool, true, false, List, [], ◌∷◌, ◌++◌, length, drop, ◌⊎◌, inl, inr, eqb}
+use Rattle.std.proofs.Common.{◌≡◌, ◌≢◌, ℕ, suc, zero, ◌+◌, ◌≤◌, ◌<◌, ◌==◌, ◌||◌, refl, sym, ◌∙◌, ap, arith, subst, eq-eqb, ne_eqb, Bool, true, false, List, [], ◌∷◌, ◌++◌, length, slice_get, Option, Some, None, ◌⊎◌, inl, inr, eqb}
 use Rattle.std.proofs.lemmas.Bool.{cases_eq}
-use Rattle.std.specs.List.{IsDistinct, AllByRecursion, list_any}
+use Rattle.std.specs.List.{remove, IsDistinct, AllByRecursion, list_any}
 use Rattle.std.proofs.lemmas.Map.Steps.{length-le_from_distinct_below}
 use Rattle.gm_model.specs.Flows.{is_listed}
 use Rattle.obj_xbar.specs.Waiting.{AreOnce}
@@ -42,7 +42,7 @@ at_most ps h = length-le_from_distinct_below ps 8 (are_distinct ps h) (are_below
 
 -- there is a place for another
 pub room_for_another : (ps : List ℕ) (q : ℕ) → AreOnce ps → q < 8 → is_listed q ps ≡ false → length ps < 8
-room_for_another ps q h l n = omega (arith, at_most (q ∷ ps) (l, (n, h)))
+room_for_another ps q h l n = omega (arith, at_most (q ∷ ps) (l, n, h))
 
 unlisted_end : (p q : ℕ) (ps : List ℕ) → is_listed p ps ≡ false → q ≢ p → is_listed p (ps ++ q ∷ []) ≡ false
 unfolding is_listed
@@ -51,10 +51,15 @@ unlisted_end p q (x ∷ xs) n d = rw (ne_eqb x p (other_first p x xs n)) (unlist
 
 pub joined_are_once : (ps : List ℕ) (q : ℕ) → AreOnce ps → q < 8 → is_listed q ps ≡ false → AreOnce (ps ++ q ∷ [])
 unfolding is_listed
-joined_are_once [] q h l n = (l, (refl, tt))
+joined_are_once [] q h l n = (l, refl, tt)
 joined_are_once (p ∷ ps) q h l n =
-    (h.0, (unlisted_end p q ps h.1 (λ e. other_first q p ps n (sym e)), joined_are_once ps q h.2 l (others q p ps n)))
+    (h.0, unlisted_end p q ps h.1 (λ e. other_first q p ps n (sym e)), joined_are_once ps q h.2 l (others q p ps n))
 
-pub rest_are_once : (ps : List ℕ) → AreOnce ps → AreOnce (drop 1 ps)
+-- the first of a list, and the others
+pub first_and_rest : (ps : List ℕ) (p : ℕ) → Some p ≡ slice_get ps 0 → ps ≡ p ∷ remove ps 0
+first_and_rest [] p e = absurd (cc)
+first_and_rest (q ∷ qs) p e = cc
+
+pub rest_are_once : (ps : List ℕ) → AreOnce ps → AreOnce (remove ps 0)
 rest_are_once [] h = tt
 rest_are_once (p ∷ ps) h = h.2

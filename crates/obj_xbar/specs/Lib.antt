@@ -3,3 +3,4 @@ pub mod Lane
 pub mod Ports
 pub mod Shown
 pub mod Side
+pub mod Stays

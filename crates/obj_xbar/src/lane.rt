@@ -1,5 +1,5 @@
 // A layer of a crossbar: one packet, and who waits for its place.
-ghost use Rattle.std.specs.Prelude.{◌≡◌, ℕ, ◌<◌, ◌≤◌, ◌-◌, ◌==◌, [], length, IsTrue, IfOk, IfSome, is_some, option_copied};
+ghost use Rattle.std.specs.Prelude.{◌≡◌, ◌<◌, ◌≤◌, ◌-◌, ◌==◌, [], length, IsTrue, IfOk, IfSome, is_some, option_copied};
 ghost use Rattle.ev_queue.specs.SlotTable.{gave};
 ghost use Rattle.gm_words.specs.Allowed.{MayPass};
 ghost use Rattle.gm_words.specs.Changes.{changed};
@@ -7,7 +7,7 @@ ghost use Rattle.gm_words.specs.Flow.{empty_lane, quiet_flow, Waits};
 ghost use Rattle.gm_model.specs.Flows.{head_of, has_room, is_due_out, joined_once, still, put_in, ask_in, hold_in, again_in, open_in};
 ghost use Rattle.gm_model.specs.Memory.{queued_bytes};
 ghost use Rattle.gm_model.specs.Xbar.{is_lane_idle, read_of};
-ghost use Rattle.obj_core.specs.Kept.{is_waiting, with_front};
+ghost use Rattle.obj_core.specs.Kept.{is_waiting, outlet_of, with_front};
 ghost use Rattle.obj_core.specs.Out.{extended};
 
 use crate::waiting::Waiting;
@@ -106,12 +106,11 @@ impl Lane {
         requires room { IsTrue (has_room 1 self.old) }
         requires size { MayPass p.now }
         requires known { IsTrue (gave q.old.table event.now.owner event.now.slot CLASS) }
-        ensures lane { (port : ℕ) → self.new ≡ record self.old {
-          flow = (put_in (record { port = port; slot = event.now.slot; class = CLASS }) p.now at self.old.flow.items self.old.flow.out).flow;
+        ensures lane { self.new ≡ record self.old {
+          flow = (put_in (outlet_of event.now.slot CLASS) p.now at self.old.flow.items self.old.flow.out).flow;
         } }
-        ensures events { (port : ℕ) → q.new ≡ record q.old {
-          pending = changed event.now.owner q.old.pending
-              (put_in (record { port = port; slot = event.now.slot; class = CLASS }) p.now at self.old.flow.items self.old.flow.out).changes;
+        ensures events { q.new ≡ record q.old {
+          pending = changed event.now.owner q.old.pending (put_in (outlet_of event.now.slot CLASS) p.now at self.old.flow.items self.old.flow.out).changes;
         } }
     {
         self.flow.put(p, at, event, q);

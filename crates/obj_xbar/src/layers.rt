@@ -15,7 +15,6 @@ ghost use Rattle.obj_core.specs.Handles.{handles_from};
 ghost use Rattle.obj_core.specs.May.{MayWakeXbar, HasPlace};
 ghost use Rattle.obj_core.specs.Out.{HasRoom, extended};
 ghost use Rattle.obj_core.specs.Step.{Takes, Answers};
-ghost use Rattle.obj_xbar.specs.Shown.{xbar_state};
 
 use crate::lane::Lane;
 use crate::ports::Ports;
@@ -48,6 +47,8 @@ pub struct Layers {
 }
 
 impl Layers {
+    ghost use Rattle.obj_xbar.specs.Shown.{xbar_state};
+
     // Set-up.
 
     /// A crossbar at its start: in atomic mode, draining, and with nothing in its layers.
@@ -121,6 +122,7 @@ impl Layers {
     }
 
     /// A packet is offered at a port: it is taken where the place of its layer is free.
+    #[tactic(auto, using(crate::proofs::LayerLemmas::layer_within), unfolding(gm_model::specs::Xbar::layer_of))]
     fn offered(
         &mut self,
         port: PortNo,
@@ -219,7 +221,7 @@ impl Layers {
     }
 
     /// The event of a layer: its packet is offered, or, where its address is of no port, refused by fault.
-    #[tactic(auto, using(obj_core::proofs::StepLemmas::ask_changes))]
+    #[tactic(auto, using(obj_core::proofs::StepLemmas::ask_changes, crate::proofs::StepLemmas::nothing_there))]
     fn event(&mut self, slot: SlotNo, now: Tick, q: &mut EventQueue, out: &mut Outbox)
         requires tick { now ≤ TOP }
         requires room { HasRoom out.old }
@@ -238,6 +240,7 @@ impl Layers {
     }
 
     /// The offer at a port was taken: the first that waits for its layer is called, or it is the layer of no port.
+    #[tactic(auto, using(crate::proofs::StepLemmas::next_is, crate::proofs::StepLemmas::less_ahead, crate::proofs::StepLemmas::same_ahead, crate::proofs::StepLemmas::opened_one))]
     fn taken(&mut self, port: PortNo, now: Tick, q: &mut EventQueue, out: &mut Outbox)
         requires port { port.0 < length self.old.ports.uses }
         requires tick { now ≤ TOP }
@@ -306,7 +309,7 @@ fn empty_lanes(alloc: Global, count: usize) -> Result<Vec<Lane>, NoMemory>
     ensures { IfOk result (λ ls. ls.items ≡ replicate count empty_lane) }
 {
     let mut lanes = Vec::with_capacity(alloc, count)?;
-    for _port in 0..count {
+    while lanes.len() < count {
         lanes.push(Lane::new(alloc)?)?;
     }
     Ok(lanes)

@@ -3,7 +3,7 @@ ghost use Rattle.std.specs.Prelude.{◌≡◌, ℕ, ◌+◌, ◌<◌, ◌≤◌,
 ghost use Rattle.gm_words.specs.Allowed.{MayPass};
 ghost use Rattle.gm_words.specs.Changes.{changed};
 ghost use Rattle.gm_words.specs.Packet.{is_response, top_port};
-ghost use Rattle.gm_words.specs.PortUses.{xbar_classes, used, source_port, slot_of_port, class_of_port, side_slot, request_class, is_total, port_of_slot, is_side_slot};
+ghost use Rattle.gm_words.specs.PortUses.{xbar_classes, used, fore, behind, sides, source_port, slot_of_port, class_of_port, side_slot, request_class, is_total, port_of_slot, is_side_slot};
 ghost use Rattle.gm_words.specs.Slots.{gave_from};
 ghost use Rattle.gm_model.specs.Flows.{has_room, put_in};
 ghost use Rattle.gm_model.specs.Xbar.{layer_for};
@@ -122,6 +122,7 @@ impl Ports {
     // Packets in.
 
     /// Takes a packet into the free place of a port's layer, which is offered at a tick.
+    #[tactic(auto, using(crate::proofs::HandleLemmas::slot_before, crate::proofs::HandleLemmas::slot_after, crate::proofs::HandleLemmas::class_before, crate::proofs::HandleLemmas::class_after, crate::proofs::HandleLemmas::response_given, crate::proofs::HandleLemmas::request_given, obj_core::proofs::StepLemmas::put_flow, obj_core::proofs::StepLemmas::put_changes))]
     pub(crate) fn put(&self, port: usize, lane: &mut Lane, p: &Packet, at: Tick, q: &mut EventQueue)
         requires port { port < length self.now.uses }
         requires room { IsTrue (has_room 1 lane.old) }
@@ -139,13 +140,14 @@ impl Ports {
     {
         let fore = port_use::fore(&self.uses);
         if port < fore {
-            lane.put(p, at, &self.response[port], q);
+            lane.put(p, at, self.response(port), q);
         } else {
-            lane.put(p, at, &self.request[port - fore], q);
+            lane.put(p, at, self.request(port - fore), q);
         }
     }
 
     /// Takes a packet into the free place of the layer of no port.
+    #[tactic(auto, using(crate::proofs::HandleLemmas::side_there, crate::proofs::HandleLemmas::request_given, obj_core::proofs::StepLemmas::put_flow, obj_core::proofs::StepLemmas::put_changes))]
     pub(crate) fn put_beside(&self, side: &mut Lane, p: &Packet, at: Tick, q: &mut EventQueue)
         requires sided { IsFalse (is_total self.now.uses) }
         requires room { IsTrue (has_room 1 side.old) }
@@ -162,6 +164,24 @@ impl Ports {
         } }
     {
         let behind = port_use::behind(&self.uses);
-        side.put(p, at, &self.request[behind], q);
+        side.put(p, at, self.request(behind), q);
+    }
+
+    /// The handle of the layer for responses of a port.
+    #[tactic(auto, using(crate::proofs::HandleLemmas::response_count, crate::proofs::HandleLemmas::response_at))]
+    fn response(&self, port: usize) -> &EventHandle<0>
+        requires { port < fore self.now.uses }
+        ensures { result.now ≡ record { owner = self.now.object; slot = behind self.now.uses + sides self.now.uses + port } }
+    {
+        &self.response[port]
+    }
+
+    /// The handle of a layer for requests, by its slot.
+    #[tactic(auto, using(crate::proofs::HandleLemmas::request_count, crate::proofs::HandleLemmas::request_at))]
+    fn request(&self, slot: usize) -> &EventHandle<10>
+        requires { slot < behind self.now.uses + sides self.now.uses }
+        ensures { result.now ≡ record { owner = self.now.object; slot = slot } }
+    {
+        &self.request[slot]
     }
 }

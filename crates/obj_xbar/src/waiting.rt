@@ -1,8 +1,6 @@
 // Who waits for room in a layer.
-ghost use Rattle.std.specs.Prelude.{◌≡◌, ◌<◌, [], length, drop};
-ghost use Rattle.std.specs.Option.{option_map};
+ghost use Rattle.std.specs.Prelude.{◌≡◌, ◌<◌, ◌≤◌, [], ◌∷◌, length, IfSome, IfNone};
 ghost use Rattle.gm_model.specs.Flows.{is_listed, joined_once};
-ghost use Rattle.obj_xbar.specs.Waiting.{first_of};
 
 use arrayvec::ArrayVec;
 use gc_base::PortNo;
@@ -39,8 +37,10 @@ impl Waiting {
     }
 
     /// How many ports wait.
+    #[tactic(auto, using(crate::proofs::WaitingLemmas::at_most))]
     pub(crate) fn len(&self) -> usize
-        ensures { result ≡ length self.now }
+        ensures value { result ≡ length self.now }
+        ensures most { result ≤ 8 }
     {
         self.ports.len()
     }
@@ -70,10 +70,13 @@ impl Waiting {
     }
 
     /// Takes out the port that came first, if one waits.
+    #[tactic(auto, using(crate::proofs::WaitingLemmas::first_and_rest, crate::proofs::WaitingLemmas::rest_are_once))]
     pub(crate) fn take_first(&mut self) -> Option<PortNo>
-        ensures first { option_map (λ p. p.0) result ≡ first_of self.old }
-        ensures rest { self.new ≡ drop 1 self.old }
+        ensures some { IfSome result (λ p. self.old ≡ p.0 ∷ self.new) }
+        ensures none { IfNone result (self.old ≡ []) }
+        ensures nobody { IfNone result (self.new ≡ []) }
     {
-        self.ports.pop_at(0).map(PortNo)
+        let port = self.ports.pop_at(0)?;
+        Some(PortNo(port))
     }
 }

@@ -1,7 +1,10 @@
-use Rattle.std.proofs.Common.{◌≡◌, replicate}
+use Rattle.std.proofs.Common.{◌≡◌, ◌-◌, ◌≤◌, replicate, length}
 use Rattle.gm_words.specs.Flow.{empty_lane}
 use Rattle.obj_xbar.proofs.layers.empty_lanes.Given as goal
 
--- so many are empty
-abbrev pub invariant-loop-1 : goal.invariant-loop-1
-invariant-loop-1 l = ?
+-- those that there are have nothing in them, and aren't too many
+abbrev pub invariant-loop-lanes : goal.invariant-loop-lanes
+invariant-loop-lanes l = record { empty : l.lanes.items ≡ replicate (length l.lanes.items) empty_lane; most : length l.lanes.items ≤ l.count }
+
+abbrev pub decreases-loop-lanes : goal.decreases-loop-lanes
+decreases-loop-lanes l = l.count - length l.lanes.items

@@ -15,7 +15,7 @@ invariant_of-self c =
     record {
       cap = put.packet.cap ∙ c.take.ensures.taken.cap ∙ i.cap;
       held = rw c.push_front_reserved.ensures.items
-          (front_held _ _ c.pop_front.new.self.items _ _ _ put.packet put.vacant c.requires (taken_held o.pool _ c.in-Some.first c.pop_front.new.self.items None c.take.ensures.taken h));
+          (front_held _ _ c.pop_front.new.self.items _ c.args.ready _ put.packet put.vacant c.requires (taken_held o.pool _ c.in-Some.first c.pop_front.new.self.items None c.take.ensures.taken h));
       all = omega (arith, put.one_more, as_there _ _ c.take.ensures.packet h.0 c.take.ensures.one_less, i.all, ap length e, more);
       within = omega (arith, i.within, ap length e, more);
       room = omega (arith, i.room, c.in-Some.ensures.capacity, c.push_front_reserved.ensures.capacity);
