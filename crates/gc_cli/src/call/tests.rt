@@ -10,6 +10,7 @@ use std::test::Fail;
 
 mod examples;
 mod files;
+mod interrupts;
 mod ticks;
 
 /// A machine with 64 KiB of RAM: its model, its budget, more keys of `cpu`, the latency of `corebus`, and more sections.
