@@ -8,7 +8,7 @@ ghost use Rattle.gm_words.specs.Packet.{fault_response};
 ghost use Rattle.gm_words.specs.Router.{destination};
 ghost use Rattle.gm_model.specs.Sys.{active_cpu, pass_at, peer_in, step_at};
 ghost use Rattle.gm_words.specs.declared.wake.Wake.TheVariants.{Line, AtomicDone};
-ghost use Rattle.kernel.specs.Ready.{IsReadyForWake, IsReadyForPacket, MayGoOn, HasItemRoom, IsUnderWay, Delivers, MayOffer};
+ghost use Rattle.kernel.specs.Ready.{IsReadyForWake, IsReadyForPacket, MayGoOn, HasItemRoom, IsPassedFirst, IsUnderWay, Delivers, MayOffer};
 
 use crate::boxes::{arch_box, pass_box, wake_box};
 use crate::machine::Machine;
@@ -59,8 +59,23 @@ impl Machine {
         ensures landed { OnFalse result (self.old.out.items ≡ []) }
         ensures table { self.new.queue.table ≡ self.old.queue.table }
     {
+        let none_left = self.out.is_empty();
+        if none_left {
+            return false;
+        }
+        self.deliver_first();
+        true
+    }
+
+    /// Delivers the first item. Most are packets that are passed at once. The others are kept apart, so that their locals,
+    /// which are cleared where a function begins, are cleared for them alone.
+    #[inline(always)]
+    fn deliver_first(&mut self)
+        requires { IsUnderWay (delivery_of state self.old) self.old.queue.table }
+        ensures delivered { Delivers 1 (delivery_of state self.old) (delivery_of state self.new) }
+        ensures table { self.new.queue.table ≡ self.old.queue.table }
+    {
         match self.out.first() {
-            None => false,
             Some(
                 Item::Sent {
                     sender,
@@ -68,12 +83,31 @@ impl Machine {
                 },
             ) => {
                 let sender = *sender;
-                // The one copy of a packet that is made on its way to the server.
-                let mut packet = *pkt;
-                self.out.drop_first();
-                let latency = self.pass(&mut packet);
-                self.answer(sender, packet, latency);
-                true
+                let packet = *pkt;
+                self.pass_on(sender, packet);
+            }
+            _ => self.deliver_any(),
+        }
+    }
+
+    /// Delivers the first item, whichever it is.
+    #[inline(never)]
+    fn deliver_any(&mut self)
+        requires { IsUnderWay (delivery_of state self.old) self.old.queue.table }
+        ensures delivered { Delivers 1 (delivery_of state self.old) (delivery_of state self.new) }
+        ensures table { self.new.queue.table ≡ self.old.queue.table }
+    {
+        match self.out.first() {
+            None => {}
+            Some(
+                Item::Sent {
+                    sender,
+                    act: Act::Atomic { pkt, .. },
+                },
+            ) => {
+                let sender = *sender;
+                let packet = *pkt;
+                self.pass_on(sender, packet);
             }
             Some(
                 Item::Sent {
@@ -84,7 +118,6 @@ impl Machine {
                 let (bit, level) = (*bit, *level);
                 self.out.drop_first();
                 self.set_line(bit, level);
-                true
             }
             Some(
                 Item::Sent {
@@ -95,7 +128,6 @@ impl Machine {
                 let (sender, port, packet) = (*sender, *port, *pkt);
                 self.out.drop_first();
                 self.offer(sender, port, packet);
-                true
             }
             Some(
                 Item::Sent {
@@ -106,7 +138,6 @@ impl Machine {
                 let called = peer(self.platform.as_slice(), *sender, *port);
                 self.out.drop_first();
                 self.wake(called.part, Wake::Retry { port: called.port });
-                true
             }
             Some(
                 Item::Done {
@@ -122,9 +153,21 @@ impl Machine {
                 };
                 self.out.drop_first();
                 self.wake(sender, done);
-                true
             }
         }
+    }
+
+    /// Passes the first item on, which is this packet of a sender that waits for it, and tells the sender.
+    #[inline(always)]
+    fn pass_on(&mut self, sender: ObjId, mut packet: Packet)
+        requires under_way { IsUnderWay (delivery_of state self.old) self.old.queue.table }
+        requires first { IsPassedFirst self.old.out.items sender.0 packet }
+        ensures delivered { Delivers 1 (delivery_of state self.old) (delivery_of state self.new) }
+        ensures table { self.new.queue.table ≡ self.old.queue.table }
+    {
+        self.out.drop_first();
+        let latency = self.pass(&mut packet);
+        self.answer(sender, packet, latency);
     }
 
     /// Tells a sender of the packet that it passed on: at once, if nothing else is to be delivered, and else after that.

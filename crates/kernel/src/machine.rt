@@ -6,7 +6,7 @@ use crate::router::Router;
 use ev_queue::EventQueue;
 use gc_base::Tick;
 use gm_model::Entry;
-use gm_model::platform::{EXIT_BASE, Part, RAM_BASE};
+use gm_model::platform::{Part, RAM_BASE};
 use obj_core::{Outbox, SimObject};
 use probe_stats::Counters;
 use rv_step::Arch;
@@ -75,7 +75,7 @@ impl Machine {
     pub fn exited(&self) -> Option<u32>
         ensures { result ≡ exit_of (sys_of state self.now) }
     {
-        let exit = self.router.destination(EXIT_BASE)?.0 as usize;
+        let exit = self.router.exit()?.0 as usize;
         if exit < self.parts.len() {
             exit_box(&self.parts[exit])
         } else {
