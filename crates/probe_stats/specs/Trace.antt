@@ -1,8 +1,8 @@
 -- The trace: a line for each event, and one for each entry that it notes. This project's own rules.
-use Rattle.std.specs.Prelude.{ℕ, ◌<◌, ◌≤◌, Bool, true, false, if◌then◌else◌, List, [], ◌∷◌, ◌++◌, length, take, slice_get, codes, decimal}
+use Rattle.std.specs.Prelude.{ℕ, ◌<◌, ◌≤◌, ◌==◌, Bool, true, false, if◌then◌else◌, List, [], ◌∷◌, ◌++◌, length, take, slice_get, codes, decimal}
 use Rattle.std.specs.Option.{option_map_or}
 use Rattle.gc_text.specs.Hexadecimal.{hex8, hex16, hex_of}
-use Rattle.gm_words.specs.Platform.{Part}
+use Rattle.gm_words.specs.Platform.{Part, fetch_source, data_source}
 use Rattle.gm_words.specs.declared.entry.Entry.{Entry}
 use Rattle.gm_words.specs.declared.entry.Entry.TheVariants as entries
 
@@ -12,9 +12,7 @@ path_at parts object = option_map_or (λ p. p.path) (slice_get parts object) []
 
 -- the letter of a source: instructions, data, or the DMA engine
 abbrev pub source_letter : ℕ → List ℕ
-source_letter 0 = codes "i"
-source_letter 1 = codes "d"
-source_letter _ = codes "m"
+source_letter src = if src == fetch_source then codes "i" else if src == data_source then codes "d" else codes "m"
 
 -- what an access asks for
 abbrev pub request_words : ℕ → ℕ → Bool → ℕ → List ℕ

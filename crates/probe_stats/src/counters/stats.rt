@@ -130,6 +130,7 @@ fn count_at(parts: &[Part], counts: &[u64], path: &str) -> u64
 }
 
 /// Appends the line of a pair.
+#[tactic(auto, using(gc_text::proofs::DecimalLemmas::decimal_is_short))]
 fn put_pair(b: &mut LineBuf, pair: Pair)
     requires room { length b.old + 64 ≤ MAX_LINE }
     requires short { length pair.name.now ≤ 32 }

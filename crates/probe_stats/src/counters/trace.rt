@@ -11,6 +11,7 @@ use gm_words::Entry;
 
 impl Counters {
     /// Appends the line that a traced event begins with: its tick, its object's path and its slot.
+    #[tactic(auto, using(gc_text::proofs::DecimalLemmas::decimal_is_short))]
     pub fn trace_head(&self, at: Tick, object: ObjId, slot: SlotNo, b: &mut LineBuf)
         requires part { object.0 < length self.now.parts }
         requires room { length b.old + 128 ≤ MAX_LINE }
@@ -95,6 +96,7 @@ impl Counters {
 }
 
 /// Appends what an access asks for.
+#[tactic(auto, using(gc_text::proofs::DecimalLemmas::decimal_is_short))]
 fn put_request(b: &mut LineBuf, src: u8, id: PktId, write: bool, addr: u64)
     requires source { src ≤ 2 }
     requires room { length b.old + 64 ≤ MAX_LINE }
@@ -109,6 +111,7 @@ fn put_request(b: &mut LineBuf, src: u8, id: PktId, write: bool, addr: u64)
 }
 
 /// Appends of how many bytes an access is, who served it, the bytes, and whether it was refused.
+#[tactic(auto, using(gc_text::proofs::DecimalLemmas::decimal_is_short))]
 fn put_answer(b: &mut LineBuf, device: bool, bytes: &[u8], fault: bool)
     requires size { length bytes.now ≤ 8 }
     requires room { length b.old + 64 ≤ MAX_LINE }
