@@ -76,7 +76,7 @@ until_of-words End h = refl
 -- digits of either case are read as the bytes that they spell
 octets_of-digits : (digits bytes : List ℕ) → 1 ≤ length bytes → length bytes ≤ 64 → decode_of digits ≡ Ok bytes → octets_of digits ≡ Some bytes
 octets_of-digits digits bytes some few e =
-    let twice : length digits ≡ 2 * length bytes = (decode_of-ok digits bytes e).2.0 in
+    let twice : length digits ≡ 2 * length bytes = (decode_of-ok digits bytes e).2 in
     let least : nat_le 2 (length digits) ≡ true = grind (arith, nat_tests) in
     let most_digits : nat_le (length digits) 128 ≡ true = grind (arith, nat_tests) in
     rw (least, most_digits, e) refl
@@ -94,7 +94,7 @@ octets_of-spelled digits bytes e = by_tests (nat_le 2 (length digits) && nat_le 
         let same_bytes : decode_of digits ≡ Ok bytes = q ∙ ap Ok is in
         let ok = decode_of-ok digits bytes same_bytes in
         let parts = and_parts (nat_le 2 (length digits)) (nat_le (length digits) 128) p in
-        (omega (arith, ok.2.0, leb-true 2 (length digits) parts.0), omega (arith, ok.2.0, leb-true (length digits) 128 parts.1), ok.2.1, same_bytes)
+        (omega (arith, ok.2, leb-true 2 (length digits) parts.0), omega (arith, ok.2, leb-true (length digits) 128 parts.1), ok.3, same_bytes)
     by_tests true (Err fault) p q h = absurd (cc)
     by_tests false r p q h = absurd (cc)
 
@@ -116,7 +116,7 @@ line_of_stop (Run u) h = record { sayable = h; spelled = refl }
 line_of_stop Regs h = record { sayable = h; spelled = refl }
 line_of_stop Stats h = record { sayable = h; spelled = refl }
 line_of_stop StatsJson h = record { sayable = h; spelled = refl }
-line_of_stop (Input bytes) h = record { sayable = h; spelled = (hex_of bytes, refl, decode_of-encode_lower bytes h.2.1) }
+line_of_stop (Input bytes) h = record { sayable = h; spelled = (hex_of bytes, refl, decode_of-encode_lower bytes h.2) }
 line_of_stop (Trace on) h = record { sayable = h; spelled = refl }
 
 -- the words for a way to go with a number
@@ -213,7 +213,7 @@ line_is_short line Stats h = omega (arith, ap length h.spelled)
 line_is_short line StatsJson h = omega (arith, ap length h.spelled)
 line_is_short line (Input bytes) h =
     let (digits, is, decoded) = h.spelled in
-    omega (arith, ap length is, length-append (codes "input ") digits, (decode_of-ok digits bytes decoded).2.0, h.sayable.1)
+    omega (arith, ap length is, length-append (codes "input ") digits, (decode_of-ok digits bytes decoded).2, h.sayable.1)
 line_is_short line (Trace true) h = omega (arith, ap length h.spelled)
 line_is_short line (Trace false) h = omega (arith, ap length h.spelled)
 
@@ -409,7 +409,7 @@ abbrev IsInLine : ℕ → Type 0
 IsInLine c = is_line_feed c ≡ false
 
 -- fixed words, by computing
-in_line : List ℕ → Bool
+abbrev in_line : List ℕ → Bool
 in_line [] = true
 in_line (c ∷ cs) = not (is_line_feed c) && in_line cs
 
@@ -447,7 +447,7 @@ stop_in_line Stats h = word_in_line (codes "stats") refl
 stop_in_line StatsJson h = word_in_line (codes "stats json") refl
 stop_in_line (Input bytes) h =
     All-append IsInLine (codes "input ") (hex_of bytes) (word_in_line (codes "input ") refl)
-    (All-weaker (λ c. is_lower_digit c ≡ true) IsInLine digit_in_line (hex_of bytes) (AllPass-hex_of bytes h.2.1))
+    (All-weaker (λ c. is_lower_digit c ≡ true) IsInLine digit_in_line (hex_of bytes) (AllPass-hex_of bytes h.2))
 stop_in_line (Trace true) h = word_in_line (codes "trace on") refl
 stop_in_line (Trace false) h = word_in_line (codes "trace off") refl
 

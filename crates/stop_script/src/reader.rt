@@ -11,7 +11,6 @@ use crate::script::Script;
 use crate::script_fault::ScriptFault;
 use crate::stop::Stop;
 use crate::stops::Stops;
-use gc_base::NoMemory;
 use gc_base::limits::SCRIPT_LINES_MAX;
 use gc_text::MAX_LINE;
 use gm_words::Config;
@@ -82,7 +81,7 @@ fn read_line(alloc: Global, line: &[u8], number: u32) -> Result<Option<Stop>, Sc
     match stop_of(alloc, line) {
         Ok(Some(stop)) => Ok(Some(stop)),
         Ok(None) => Err(ScriptFault::Line { line: number }),
-        Err(NoMemory) => Err(ScriptFault::NoMemory),
+        Err(_) => Err(ScriptFault::NoMemory),
     }
 }
 

@@ -49,7 +49,11 @@ fn is_said(stop: &Stop, said: Said) -> bool {
 }
 
 fn are_said(stops: &[Stop], said: &[Said]) -> bool {
-    stops.len() == said.len() && stops.iter().zip(said).all(|(stop, said)| is_said(stop, *said))
+    stops.len() == said.len()
+        && stops
+            .iter()
+            .zip(said)
+            .all(|(stop, said)| is_said(stop, *said))
 }
 
 // Whether a text reads as these stops, or is refused at this line.
@@ -175,9 +179,7 @@ static SCRIPTS: [(&[u8], Result<&[Said], u32>); 98] = [
     (b"input 48656C6c6f0A", Ok(&[Said::Input(b"Hello\n")])),
     (
         b"input 7a7A7a7A7a7A7a7A7a7A7a7A7a7A7a7A7a7A7a7A7a7A7a7A7a7A7a7A7a7A7a7A7a7A7a7A7a7A7a7A7a7A7a7A7a7A7a7A7a7A7a7A7a7A7a7A7a7A7a7A7a7A7a7A",
-        Ok(&[Said::Input(
-            b"zzzzzzzzzzzzzzzzzzzzzzzzzzzzzzzzzzzzzzzzzzzzzzzzzzzzzzzzzzzzzzzz",
-        )]),
+        Ok(&[Said::Input(b"zzzzzzzzzzzzzzzzzzzzzzzzzzzzzzzzzzzzzzzzzzzzzzzzzzzzzzzzzzzzzzzz")]),
     ),
     (
         b"input 7a7A7a7A7a7A7a7A7a7A7a7A7a7A7a7A7a7A7a7A7a7A7a7A7a7A7a7A7a7A7a7A7a7A7a7A7a7A7a7A7a7A7a7A7a7A7a7A7a7A7a7A7a7A7a7A7a7A7a7A7a7A7a7A7a\n",

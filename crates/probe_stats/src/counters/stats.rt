@@ -41,13 +41,14 @@ impl Counters {
     /// The n-th pair at a tick.
     pub(super) fn pair(&self, n: usize, now: Tick) -> Option<Pair>
         requires { self.now.since ≤ now }
-        ensures { option_map pair_shown result ≡ slice_get (stats_pairs self.now now) n }
+        ensures value { option_map pair_shown result ≡ slice_get (stats_pairs self.now now) n }
+        ensures caches { self.now.caches ≤ 3 }
     {
         let caches = CACHE_PAIRS * self.caches;
         if n < caches {
-            self.cache_pairs().get(n).copied()
+            picked(&self.cache_pairs(), n)
         } else {
-            self.machine_pairs(now).get(n - caches).copied()
+            picked(&self.machine_pairs(now), n - caches)
         }
     }
 
@@ -109,6 +110,12 @@ impl Counters {
     {
         named(name, count_at(&self.parts, &self.refused, path))
     }
+}
+
+fn picked(pairs: &[Pair], n: usize) -> Option<Pair>
+    ensures { option_map pair_shown result ≡ slice_get (map pair_shown pairs.now) n }
+{
+    pairs.get(n).copied()
 }
 
 fn named(name: &'static str, number: u64) -> Pair
