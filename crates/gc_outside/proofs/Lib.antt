@@ -3,3 +3,4 @@ pub mod Arena
 pub mod Files
 pub mod Sure
 pub mod Emissions
+pub mod InOrder

@@ -22,9 +22,9 @@ use Rattle.kernel.specs.Ends.{StopsAtByte, TellsEnd, IsFaultOf}
 use Rattle.kernel.specs.declared.run_end.RunEnd.{RunEnd as ToldEnd}
 use Rattle.kernel.specs.declared.run_end.RunFault.{RunFault}
 use Rattle.kernel.specs.declared.run_end.RunFault.TheVariants as faults
-use Rattle.session.specs.Emissions.{Emission, ToConsole, ToReport, SinkFailed, EmitsInOrder}
-use Rattle.session.specs.Outside.{SinkSeen, Sinks}
-use Rattle.session.proofs.EmissionLemmas.{front_console, front_more, order_nothing, order_then, order_cut, order_console, order_report}
+use Rattle.gc_outside.specs.Emissions.{Emission, ToConsole, ToReport, SinkFailed, EmitsInOrder}
+use Rattle.gc_outside.specs.Sinks.{SinkSeen, Sinks}
+use Rattle.gc_outside.proofs.InOrder.{front_console, front_more, order_nothing, order_then, order_cut, order_console, order_report}
 use Rattle.session.specs.Script.{Written, run_line, run_written, then_written, stop_written, script_written}
 use Rattle.stop_script.specs.declared.stop.Stop.{Stop}
 

@@ -1,9 +1,10 @@
 -- How a call ends. Source: this project's own rule.
 use Rattle.std.specs.Prelude.{◌≡◌, ℕ, ◌⊎◌, Bool, true, false, List, [], ◌∷◌, ◌++◌, Result, Ok, Err, codes}
 use Rattle.gc_outside.specs.Faults.{CountsFaultIf}
-use Rattle.session.specs.Emissions.{Emission, ToReport, TakesAll, TakesFront, SinkFailed}
+use Rattle.gc_outside.specs.Emissions.{Emission, ToReport, TakesAll, TakesFront, SinkFailed}
 use Rattle.session.specs.Names.{shown_name}
-use Rattle.session.specs.Outside.{SinkSeen, StoreSeen, Sinks, Outside}
+use Rattle.gc_outside.specs.Sinks.{SinkSeen, Sinks}
+use Rattle.session.specs.Outside.{StoreSeen, Outside}
 use Rattle.session.specs.declared.status.Status.{Status}
 use Rattle.session.specs.declared.status.Status.TheVariants as status
 

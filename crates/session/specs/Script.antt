@@ -13,7 +13,7 @@ use Rattle.gm_words.specs.declared.goal.Reason.{Reason}
 use Rattle.gm_words.specs.declared.goal.Reason.TheVariants as reasons
 use Rattle.stop_script.specs.declared.stop.Stop.{Stop}
 use Rattle.stop_script.specs.declared.stop.Stop.TheVariants as stops
-use Rattle.session.specs.Emissions.{Emission, ToConsole, ToReport}
+use Rattle.gc_outside.specs.Emissions.{Emission, ToConsole, ToReport}
 use Rattle.session.specs.Registers.{register_lines}
 
 -- why a run ended

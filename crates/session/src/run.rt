@@ -6,11 +6,12 @@ ghost use Rattle.kernel.specs.Build.{AreBlank, lacking};
 ghost use Rattle.kernel.specs.Load.{IsAsBuilt};
 ghost use Rattle.kernel.specs.Shown.{sys_of, sys_seen, IsMachine, IsSeen};
 ghost use Rattle.session.specs.Calls.{BuildStops, RunComesTo};
-ghost use Rattle.session.specs.Emissions.{EmitsInOrder};
+ghost use Rattle.gc_outside.specs.Emissions.{EmitsInOrder};
 ghost use Rattle.session.specs.Ending.{EndsBy, StopsBy, StopsWith, status_of};
 ghost use Rattle.session.specs.Inputs.{HasConfig, ConfigStops, HasScript, ScriptStops};
 ghost use Rattle.session.specs.Named.{request_named};
-ghost use Rattle.session.specs.Outside.{OnlyReads, outside, sink_seen, sinks, store_seen};
+ghost use Rattle.gc_outside.specs.Sinks.{sink_seen, sinks};
+ghost use Rattle.session.specs.Outside.{OnlyReads, outside, store_seen};
 ghost use Rattle.session.specs.Script.{machine_start, script_written};
 
 use crate::fetch::{fetch, fetch_image};

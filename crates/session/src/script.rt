@@ -2,8 +2,8 @@
 ghost use Rattle.std.specs.Prelude.{◌≡◌, ◌≤◌, ◌<◌, ◌+◌, ◌^◌, ◌++◌, length, is_ok, OnOk};
 ghost use Rattle.gc_base.specs.declared.limits.TheConstants.{BUDGET_MAX};
 ghost use Rattle.kernel.specs.Shown.{sys_seen, IsSeen};
-ghost use Rattle.session.specs.Emissions.{EmitsInOrder};
-ghost use Rattle.session.specs.Outside.{sinks};
+ghost use Rattle.gc_outside.specs.Emissions.{EmitsInOrder};
+ghost use Rattle.gc_outside.specs.Sinks.{sinks};
 ghost use Rattle.session.specs.Registers.{register_lines};
 ghost use Rattle.session.specs.Script.{run_reason, run_line, stop_written, script_written};
 ghost use Rattle.stop_script.specs.declared.stop.Stop.TheVariants.{Run};

@@ -1,7 +1,8 @@
 use Rattle.std.proofs.Common.{refl, ap, ◌∙◌, inl, inr, map, arith, length}
 use Rattle.std.proofs.lemmas.Result.{err_from_is_err_and}
 use Rattle.session.specs.Ending.{work_done}
-use Rattle.session.specs.Outside.{sink_seen, store_seen}
+use Rattle.gc_outside.specs.Sinks.{sink_seen}
+use Rattle.session.specs.Outside.{store_seen}
 use Rattle.session.specs.Script.{machine_start, script_written}
 use Rattle.session.proofs.CallLemmas.{run_script_stops, run_image_stops, run_machine}
 use Rattle.session.proofs.CountLemmas.{counts_earlier, build_counts}

@@ -1,5 +1,5 @@
 use Rattle.std.proofs.Common.{arith, refl}
-use Rattle.session.proofs.EmissionLemmas.{not_ok}
+use Rattle.gc_outside.proofs.InOrder.{not_ok}
 use Rattle.session.proofs.ScriptLemmas.{done_start, done_more, done_cut, done_all}
 use Rattle.session.proofs.script.carry_out.Goals as goal
 

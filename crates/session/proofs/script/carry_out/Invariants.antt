@@ -1,6 +1,6 @@
 use Rattle.std.proofs.Common.{◌+◌, ◌*◌, ◌≤◌}
 use Rattle.kernel.specs.Shown.{sys_seen, IsSeen}
-use Rattle.session.specs.Outside.{sinks}
+use Rattle.gc_outside.specs.Sinks.{sinks}
 use Rattle.session.proofs.ScriptLemmas.{HasDone}
 use Rattle.session.proofs.script.carry_out.Given as goal
 

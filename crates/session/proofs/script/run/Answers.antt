@@ -1,7 +1,7 @@
 use Rattle.std.proofs.Common.{arith, rules, ap, ◌∙◌, ◌+◌, ◌≤◌}
 use Rattle.gm_model.specs.Run.{run_to}
 use Rattle.kernel.specs.Shown.{sys_seen}
-use Rattle.session.specs.Outside.{sink_seen}
+use Rattle.gc_outside.specs.Sinks.{sink_seen}
 use Rattle.session.proofs.ScriptLemmas.{run_text, ran_emits, cut_emits, run_counts, stopped_front}
 use Rattle.session.proofs.script.run.Goals as goal
 

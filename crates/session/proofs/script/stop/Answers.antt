@@ -1,9 +1,9 @@
 use Rattle.std.proofs.Common.{List, ℕ, ap, refl, ◌∙◌, subst, []}
 use Rattle.std.specs.Prelude.{is_ok}
 use Rattle.gc_outside.specs.Emits.{Emits}
-use Rattle.session.specs.Outside.{sink_seen}
+use Rattle.gc_outside.specs.Sinks.{sink_seen}
 use Rattle.session.specs.Registers.{register_lines}
-use Rattle.session.proofs.EmissionLemmas.{order_report}
+use Rattle.gc_outside.proofs.InOrder.{order_report}
 use Rattle.session.proofs.script.stop.Goals as goal
 
 pub returns-in-Regs-clause-emitted : goal.returns-in-Regs-clause-emitted

@@ -3,7 +3,7 @@ use Rattle.std.specs.Prelude.{◌≡◌, ℕ, ◌≤◌, ◌⊎◌, Bool, true, 
 use Rattle.gc_outside.specs.Faults.{Rose}
 use Rattle.gc_outside.specs.Sink.{Appends}
 use Rattle.gc_outside.specs.Told.{Told}
-use Rattle.session.specs.Outside.{Sinks}
+use Rattle.gc_outside.specs.Sinks.{Sinks}
 
 -- bytes for one of the two sinks
 pub data Emission : Type 0 where
