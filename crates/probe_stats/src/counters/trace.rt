@@ -1,0 +1,137 @@
+// The trace: the lines of events and of the entries that they note.
+ghost use Rattle.std.specs.Prelude.{◌≡◌, ◌+◌, ◌<◌, ◌≤◌, ◌++◌, codes, decimal, length, take};
+ghost use Rattle.gc_text.specs.Hexadecimal.{hex8, hex16, hex_of};
+ghost use Rattle.gm_words.specs.Shown.{part_shown};
+ghost use Rattle.probe_stats.specs.Trace.{IsTraced, answer_words, entry_line, event_head, level_word, path_at, request_words, source_letter};
+
+use super::Counters;
+use gc_base::{ObjId, PktId, SlotNo, Tick};
+use gc_text::{LineBuf, MAX_LINE, put_dec, put_hex_bytes, put_hex8, put_hex16, put_text};
+use gm_words::Entry;
+
+impl Counters {
+    /// Appends the line that a traced event begins with: its tick, its object's path and its slot.
+    pub fn trace_head(&self, at: Tick, object: ObjId, slot: SlotNo, b: &mut LineBuf)
+        requires part { object.0 < length self.now.parts }
+        requires room { length b.old + 128 ≤ MAX_LINE }
+        ensures { b.new ≡ b.old ++ event_head self.now.parts at object.0 slot.0 }
+    {
+        put_text(b, b"@");
+        put_dec(b, at.get());
+        put_text(b, b" ");
+        put_text(b, self.path(object));
+        put_text(b, b" ");
+        put_dec(b, u64::from(slot.0));
+        put_text(b, b"\n");
+    }
+
+    /// Appends the line of an entry.
+    pub fn trace_line(&self, e: &Entry, b: &mut LineBuf)
+        requires traced { IsTraced self.now.parts e.now }
+        requires room { length b.old + 128 ≤ MAX_LINE }
+        ensures { b.new ≡ b.old ++ entry_line self.now.parts e.now }
+    {
+        match e {
+            Entry::Served {
+                src,
+                id,
+                write,
+                addr,
+                size,
+                bytes,
+                device,
+                fault,
+            } => {
+                put_text(b, b"served ");
+                put_request(b, *src, *id, *write, *addr);
+                put_text(b, b" ");
+                put_answer(b, *device, &bytes[..*size as usize], *fault);
+            }
+            Entry::Retired { pc, word } => {
+                put_text(b, b"retired ");
+                put_hex16(b, *pc);
+                put_text(b, b" ");
+                put_hex8(b, *word);
+            }
+            Entry::Trapped { cause, tval } => {
+                put_text(b, b"trapped ");
+                put_hex16(b, *cause);
+                put_text(b, b" ");
+                put_hex16(b, *tval);
+            }
+            Entry::Line { bit, level } => {
+                put_text(b, b"line ");
+                put_dec(b, u64::from(*bit));
+                put_text(b, if *level { b" 1" } else { b" 0" });
+            }
+            Entry::Slept => put_text(b, b"slept"),
+            Entry::Hit { object } => self.put_object(b, b"hit ", *object),
+            Entry::Miss { object } => self.put_object(b, b"miss ", *object),
+            Entry::Refused { object } => self.put_object(b, b"refused ", *object),
+        }
+        put_text(b, b"\n");
+    }
+
+    /// Appends what was noted of an object, and its path.
+    fn put_object(&self, b: &mut LineBuf, what: &[u8], object: ObjId)
+        requires part { object.0 < length self.now.parts }
+        requires word { length what.now ≤ 8 }
+        requires room { length b.old + 32 ≤ MAX_LINE }
+        ensures value { b.new ≡ b.old ++ what.now ++ path_at self.now.parts object.0 }
+        ensures short { length b.new ≤ length b.old + 24 }
+    {
+        put_text(b, what);
+        put_text(b, self.path(object));
+    }
+
+    /// The path of a part.
+    fn path(&self, object: ObjId) -> &'static [u8]
+        requires { object.0 < length self.now.parts }
+        ensures path { result.now ≡ path_at self.now.parts object.0 }
+        ensures short { length result.now ≤ 16 }
+    {
+        self.parts[object.0 as usize].path.as_bytes()
+    }
+}
+
+/// Appends what an access asks for.
+fn put_request(b: &mut LineBuf, src: u8, id: PktId, write: bool, addr: u64)
+    requires source { src ≤ 2 }
+    requires room { length b.old + 64 ≤ MAX_LINE }
+    ensures value { b.new ≡ b.old ++ request_words src id.0 write addr }
+    ensures short { length b.new ≤ length b.old + 41 }
+{
+    put_text(b, source_letter(src));
+    put_text(b, b" ");
+    put_dec(b, id.0);
+    put_text(b, if write { b" w " } else { b" r " });
+    put_hex16(b, addr);
+}
+
+/// Appends of how many bytes an access is, who served it, the bytes, and whether it was refused.
+fn put_answer(b: &mut LineBuf, device: bool, bytes: &[u8], fault: bool)
+    requires size { length bytes.now ≤ 8 }
+    requires room { length b.old + 64 ≤ MAX_LINE }
+    ensures value { b.new ≡ b.old ++ answer_words (length bytes.now) device bytes.now fault }
+    ensures short { length b.new ≤ length b.old + 47 }
+{
+    put_dec(b, bytes.len() as u64);
+    put_text(b, if device { b" dev " } else { b" ram " });
+    put_hex_bytes(b, bytes);
+    if fault {
+        put_text(b, b" fault");
+    }
+}
+
+/// The letter of a source: instructions, data, or the DMA engine.
+fn source_letter(src: u8) -> &'static [u8]
+    requires { src ≤ 2 }
+    ensures letter { result.now ≡ source_letter src }
+    ensures one { length result.now ≡ 1 }
+{
+    match src {
+        0 => b"i",
+        1 => b"d",
+        _ => b"m",
+    }
+}
