@@ -4,3 +4,4 @@ pub mod Files
 pub mod Sure
 pub mod Emissions
 pub mod InOrder
+pub mod Lines

@@ -8,7 +8,7 @@ use Rattle.gm_words.specs.declared.entry.Entry.TheVariants as entries
 use Rattle.probe_stats.specs.Counted.{Counted, IsBelowAt, IsAccessBelow, IsRaisedBelow}
 
 module _ (es : List Entry) (i : ℕ) (x : Entry) (c d : Counted) (here : i < length es)
-    (noted : d ≡ record { counts = count_entry c.counts (get_or es i x); since = c.since }) where
+    (noted : d ≡ record c { counts = count_entry c.counts (get_or es i x) }) where
   pub counted_same : (all : Counts) → count_entries c.counts (drop i es) ≡ all → count_entries d.counts (drop (i + 1) es) ≡ all
   counted_same all h =
       let P : List Entry → Type 0 = λ ys. count_entries c.counts ys ≡ all in

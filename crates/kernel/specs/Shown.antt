@@ -1,5 +1,5 @@
 -- A machine as the model sees it, and what is so of it between two calls.
-use Rattle.std.specs.Prelude.{ℕ, List, length, map}
+use Rattle.std.specs.Prelude.{ℕ, Bool, List, length, map}
 use Rattle.std.specs.declared.alloc.Global.{Global}
 use Rattle.std.specs.declared.dyn_box.DynBox.{DynBox}
 use Rattle.gm_model.specs.Deliver.{Delivery}
@@ -51,6 +51,10 @@ named_of m = record { parts = m.counters.parts; caches = m.counters.caches }
 -- the machine of a configuration has these
 abbrev pub named_by : Config → Named
 named_by c = record { parts = platform c; caches = length c.caches }
+
+-- it traces events
+abbrev pub traces : {I : Type 0} {D : I → Type 0} → Machine I D → Bool
+traces m = m.trace
 
 -- a machine between two calls: each wake that comes is allowed
 pub record IsMachine {I : Type 0} {D : I → Type 0} (f : DynBox I Global D → ObjState) (m : Machine I D) : Type 0 where

@@ -24,6 +24,11 @@ done_refuses s = λ console. inl (refl, takes_nothing (record { console = consol
 pub refuses_from : (e : Ending) (s : Status) (old mid new : SinkSeen) → mid ≡ old → Refuses e s mid new → Refuses e s old new
 refuses_from e s old mid new same h = subst (λ (x : SinkSeen). Refuses e s x new) same h
 
+-- and so did the console
+pub leaves_from : (e : Ending) (s : Status) (c r r' : SinkSeen) (new : Sinks) → r' ≡ r → Leaves e s (record { console = c; report = r' }) new
+    → Leaves e s (record { console = c; report = r }) new
+leaves_from e s c r r' new same h = subst (λ (x : SinkSeen). Leaves e s (record { console = c; report = x }) new) same h
+
 module _ (es es' : List Emission) (c r r' : SinkSeen) (new : Sinks) (same : es' ≡ es) (silent : r' ≡ r) where
   from_here : (ok : Bool) → EmitsInOrder es' ok (record { console = c; report = r' }) new → EmitsInOrder es ok (record { console = c; report = r }) new
   from_here ok h =

@@ -11,6 +11,7 @@ use std::test::Fail;
 mod examples;
 mod files;
 mod ticks;
+mod traces;
 
 /// A machine with 64 KiB of RAM: its model, its budget, more keys of `cpu`, the latency of `corebus`, and more sections.
 macro_rules! config {

@@ -13,5 +13,5 @@ loop-entry-preserved c =
       same = counted_same es c.loop-entry.entry-index _ c.loop-entry.counters c.note.new.self c.loop-entry-test.true c.note.ensures _ i.same;
       most = counted_most es c.loop-entry.entry-index _ c.loop-entry.counters c.note.new.self c.loop-entry-test.true c.note.ensures 9223372036854775808 i.most;
       events = counted_events es c.loop-entry.entry-index _ c.loop-entry.counters c.note.new.self c.loop-entry-test.true c.note.ensures ∙ i.events;
-      since = search rules;
+      kept = c.note.ensures ∙ rw i.kept refl;
     }
