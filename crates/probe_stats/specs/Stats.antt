@@ -13,7 +13,7 @@ pub record Pair : Type 0 where
   pub number : ℕ
 
 abbrev pub pair : List ℕ → ℕ → Pair
-pair name number = record { name = name; number = number }
+pair name n = record { name = name; number = n }
 
 -- the count of the part with this path, or 0 where there is no such part
 abbrev pub count_at : List Part → List ℕ → List ℕ → ℕ

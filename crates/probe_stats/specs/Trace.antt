@@ -1,8 +1,8 @@
 -- The trace: a line for each event, and one for each entry that it notes. This project's own rules.
-use Rattle.std.specs.Prelude.{ℕ, ◌<◌, ◌≤◌, Bool, true, false, if◌then◌else◌, List, [], ◌∷◌, ◌++◌, length, take, slice_get, codes, decimal}
+use Rattle.std.specs.Prelude.{ℕ, ◌<◌, ◌≤◌, ◌==◌, Bool, true, false, if◌then◌else◌, List, [], ◌∷◌, ◌++◌, length, take, slice_get, codes, decimal}
 use Rattle.std.specs.Option.{option_map_or}
 use Rattle.gc_text.specs.Hexadecimal.{hex8, hex16, hex_of}
-use Rattle.gm_words.specs.Platform.{Part}
+use Rattle.gm_words.specs.Platform.{Part, fetch_source, data_source}
 use Rattle.gm_words.specs.declared.entry.Entry.{Entry}
 use Rattle.gm_words.specs.declared.entry.Entry.TheVariants as entries
 
@@ -12,9 +12,7 @@ path_at parts object = option_map_or (λ p. p.path) (slice_get parts object) []
 
 -- the letter of a source: instructions, data, or the DMA engine
 abbrev pub source_letter : ℕ → List ℕ
-source_letter 0 = codes "i"
-source_letter 1 = codes "d"
-source_letter _ = codes "m"
+source_letter src = if src == fetch_source then codes "i" else if src == data_source then codes "d" else codes "m"
 
 -- what an access asks for
 abbrev pub request_words : ℕ → ℕ → Bool → ℕ → List ℕ
@@ -28,19 +26,23 @@ answer_words size device bytes fault =
 
 -- the number of a line's level
 abbrev pub level_word : Bool → List ℕ
-level_word level = if level then codes "1" else codes "0"
+level_word level = if level then codes " 1" else codes " 0"
 
--- the line of an entry, in a machine of these parts
+-- the words of an entry, in a machine of these parts
+abbrev pub entry_words : List Part → Entry → List ℕ
+entry_words parts (entries.Served src id write addr size bytes device fault) =
+    codes "served " ++ request_words src id.0 write addr ++ codes " " ++ answer_words size device (take size bytes) fault
+entry_words parts (entries.Retired pc word) = codes "retired " ++ hex16 pc ++ codes " " ++ hex8 word
+entry_words parts (entries.Trapped cause tval) = codes "trapped " ++ hex16 cause ++ codes " " ++ hex16 tval
+entry_words parts (entries.Line bit level) = codes "line " ++ decimal bit ++ level_word level
+entry_words parts entries.Slept = codes "slept"
+entry_words parts (entries.Hit object) = codes "hit " ++ path_at parts object.0
+entry_words parts (entries.Miss object) = codes "miss " ++ path_at parts object.0
+entry_words parts (entries.Refused object) = codes "refused " ++ path_at parts object.0
+
+-- the line of an entry
 abbrev pub entry_line : List Part → Entry → List ℕ
-entry_line parts (entries.Served src id write addr size bytes device fault) =
-    codes "served " ++ request_words src id.0 write addr ++ codes " " ++ answer_words size device (take size bytes) fault ++ codes "\n"
-entry_line parts (entries.Retired pc word) = codes "retired " ++ hex16 pc ++ codes " " ++ hex8 word ++ codes "\n"
-entry_line parts (entries.Trapped cause tval) = codes "trapped " ++ hex16 cause ++ codes " " ++ hex16 tval ++ codes "\n"
-entry_line parts (entries.Line bit level) = codes "line " ++ decimal bit ++ codes " " ++ level_word level ++ codes "\n"
-entry_line parts entries.Slept = codes "slept\n"
-entry_line parts (entries.Hit object) = codes "hit " ++ path_at parts object.0 ++ codes "\n"
-entry_line parts (entries.Miss object) = codes "miss " ++ path_at parts object.0 ++ codes "\n"
-entry_line parts (entries.Refused object) = codes "refused " ++ path_at parts object.0 ++ codes "\n"
+entry_line parts e = entry_words parts e ++ codes "\n"
 
 -- the lines of entries
 abbrev pub entry_lines : List Part → List Entry → List ℕ

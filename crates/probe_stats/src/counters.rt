@@ -1,5 +1,5 @@
 // How often what was noted.
-ghost use Rattle.std.specs.Prelude.{◌≡◌, ℕ, ◌+◌, ◌-◌, ◌^◌, ◌<◌, vec_len, IfOk};
+ghost use Rattle.std.specs.Prelude.{◌≡◌, ℕ, ◌+◌, ◌-◌, ◌^◌, ◌<◌, length, replicate, vec_len, IfOk};
 ghost use Rattle.cfg_tree.specs.Valid.{IsValidConfig};
 ghost use Rattle.gm_words.specs.Counts.{count_entry, count_access, one_more_at};
 ghost use Rattle.probe_stats.specs.Counted.{begun_at, cleared_at, IsBelowAt, IsAccessBelow, IsRaisedBelow};
@@ -61,7 +61,10 @@ impl Model for Counters {
       caches = c.caches;
     } };
 
-    ghost invariant = { λ c. (c.caches ≤ 3) × All HasShortPath (map part_shown c.parts.items) };
+    ghost invariant = { λ c. (c.caches ≤ 3) × All HasShortPath (map part_shown c.parts.items)
+        × (length c.hits.items ≡ length c.parts.items)
+        × (length c.misses.items ≡ length c.parts.items)
+        × (length c.refused.items ≡ length c.parts.items) };
 }
 
 impl Counters {
@@ -101,9 +104,9 @@ impl Counters {
         self.device_writes = 0;
         self.ram_reads = 0;
         self.ram_writes = 0;
-        self.hits.as_mut_slice().fill(0);
-        self.misses.as_mut_slice().fill(0);
-        self.refused.as_mut_slice().fill(0);
+        forget(&mut self.hits);
+        forget(&mut self.misses);
+        forget(&mut self.refused);
         self.events = 0;
         self.since = now;
     }
@@ -172,10 +175,18 @@ fn start() -> Tick
     }
 }
 
+/// Makes all counts 0.
+fn forget(counts: &mut Vec<u64>)
+    ensures { counts.new.items ≡ replicate (length counts.old.items) 0 }
+{
+    counts.as_mut_slice().fill(0);
+}
+
 /// Counts one more of an object, if there is such a one.
 fn count_one(counts: &mut Vec<u64>, object: ObjId)
     requires { IsBelowAt (2 ^ 64 - 1) counts.old.items object.0 }
-    ensures { counts.new.items ≡ one_more_at counts.old.items object.0 }
+    ensures more { counts.new.items ≡ one_more_at counts.old.items object.0 }
+    ensures count { length counts.new.items ≡ length counts.old.items }
 {
     let place = object.0 as usize;
     if place < counts.len() {

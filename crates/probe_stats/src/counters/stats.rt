@@ -41,13 +41,14 @@ impl Counters {
     /// The n-th pair at a tick.
     pub(super) fn pair(&self, n: usize, now: Tick) -> Option<Pair>
         requires { self.now.since ≤ now }
-        ensures { option_map pair_shown result ≡ slice_get (stats_pairs self.now now) n }
+        ensures value { option_map pair_shown result ≡ slice_get (stats_pairs self.now now) n }
+        ensures caches { self.now.caches ≤ 3 }
     {
         let caches = CACHE_PAIRS * self.caches;
         if n < caches {
-            self.cache_pairs().get(n).copied()
+            picked(&self.cache_pairs(), n)
         } else {
-            self.machine_pairs(now).get(n - caches).copied()
+            picked(&self.machine_pairs(now), n - caches)
         }
     }
 
@@ -111,6 +112,12 @@ impl Counters {
     }
 }
 
+fn picked(pairs: &[Pair], n: usize) -> Option<Pair>
+    ensures { option_map pair_shown result ≡ slice_get (map pair_shown pairs.now) n }
+{
+    pairs.get(n).copied()
+}
+
 fn named(name: &'static str, number: u64) -> Pair
     ensures { pair_shown result ≡ pair name.now number }
 {
@@ -130,6 +137,7 @@ fn count_at(parts: &[Part], counts: &[u64], path: &str) -> u64
 }
 
 /// Appends the line of a pair.
+#[tactic(auto, using(gc_text::proofs::DecimalLemmas::decimal_is_short))]
 fn put_pair(b: &mut LineBuf, pair: Pair)
     requires room { length b.old + 64 ≤ MAX_LINE }
     requires short { length pair.name.now ≤ 32 }

@@ -2,7 +2,7 @@
 ghost use Rattle.std.specs.Prelude.{◌≡◌, ◌+◌, ◌<◌, ◌≤◌, ◌++◌, codes, decimal, length, take};
 ghost use Rattle.gc_text.specs.Hexadecimal.{hex8, hex16, hex_of};
 ghost use Rattle.gm_words.specs.Shown.{part_shown};
-ghost use Rattle.probe_stats.specs.Trace.{IsTraced, answer_words, entry_line, event_head, level_word, path_at, request_words, source_letter};
+ghost use Rattle.probe_stats.specs.Trace.{IsTraced, answer_words, entry_line, entry_words, event_head, level_word, path_at, request_words, source_letter};
 
 use super::Counters;
 use gc_base::{ObjId, PktId, SlotNo, Tick};
@@ -11,6 +11,7 @@ use gm_words::Entry;
 
 impl Counters {
     /// Appends the line that a traced event begins with: its tick, its object's path and its slot.
+    #[tactic(auto, using(gc_text::proofs::DecimalLemmas::decimal_is_short))]
     pub fn trace_head(&self, at: Tick, object: ObjId, slot: SlotNo, b: &mut LineBuf)
         requires part { object.0 < length self.now.parts }
         requires room { length b.old + 128 ≤ MAX_LINE }
@@ -30,6 +31,18 @@ impl Counters {
         requires traced { IsTraced self.now.parts e.now }
         requires room { length b.old + 128 ≤ MAX_LINE }
         ensures { b.new ≡ b.old ++ entry_line self.now.parts e.now }
+    {
+        self.put_entry(b, e);
+        put_text(b, b"\n");
+    }
+
+    /// Appends the words of an entry.
+    #[tactic(auto, using(gc_text::proofs::DecimalLemmas::decimal_is_short))]
+    fn put_entry(&self, b: &mut LineBuf, e: &Entry)
+        requires traced { IsTraced self.now.parts e.now }
+        requires room { length b.old + 120 ≤ MAX_LINE }
+        ensures value { b.new ≡ b.old ++ entry_words self.now.parts e.now }
+        ensures short { length b.new ≤ length b.old + 100 }
     {
         match e {
             Entry::Served {
@@ -69,7 +82,6 @@ impl Counters {
             Entry::Miss { object } => self.put_object(b, b"miss ", *object),
             Entry::Refused { object } => self.put_object(b, b"refused ", *object),
         }
-        put_text(b, b"\n");
     }
 
     /// Appends what was noted of an object, and its path.
@@ -95,6 +107,7 @@ impl Counters {
 }
 
 /// Appends what an access asks for.
+#[tactic(auto, using(gc_text::proofs::DecimalLemmas::decimal_is_short))]
 fn put_request(b: &mut LineBuf, src: u8, id: PktId, write: bool, addr: u64)
     requires source { src ≤ 2 }
     requires room { length b.old + 64 ≤ MAX_LINE }
@@ -109,6 +122,7 @@ fn put_request(b: &mut LineBuf, src: u8, id: PktId, write: bool, addr: u64)
 }
 
 /// Appends of how many bytes an access is, who served it, the bytes, and whether it was refused.
+#[tactic(auto, using(gc_text::proofs::DecimalLemmas::decimal_is_short))]
 fn put_answer(b: &mut LineBuf, device: bool, bytes: &[u8], fault: bool)
     requires size { length bytes.now ≤ 8 }
     requires room { length b.old + 64 ≤ MAX_LINE }
