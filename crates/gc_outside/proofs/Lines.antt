@@ -20,15 +20,19 @@ module _ (lines : List (List ℕ)) (old : SinkSeen) where
     split : line_emissions lines ≡ h.done ++ ToReport text ∷ line_emissions (drop (i + 1) lines)
     split = (let P : List (List ℕ) → Type 0 = λ ls. line_emissions lines ≡ h.done ++ line_emissions ls in subst P next h.same)
 
-    pub line_written : (new : SinkSeen) → Emits text true mid.taken new.taken mid.faults new.faults → HasWritten lines (i + 1) old new
-    line_written new k = record {
+    emits_said : (said : List ℕ) (ok : Bool) (new : SinkSeen) → said ≡ text → Emits said ok mid.taken new.taken mid.faults new.faults → Emits text ok mid.taken new.taken mid.faults new.faults
+    emits_said said ok new is e = let P : List ℕ → Type 0 = λ l. Emits l ok mid.taken new.taken mid.faults new.faults in subst P is e
+
+    pub line_written : (said : List ℕ) (new : SinkSeen) → said ≡ text → Emits said true mid.taken new.taken mid.faults new.faults → HasWritten lines (i + 1) old new
+    line_written said new is e = let k = emits_said said true new is e in record {
       done = h.done ++ ToReport text ∷ [];
       same = split ∙ sym (append_assoc h.done (ToReport text ∷ []) (line_emissions (drop (i + 1) lines)));
       emitted = λ c. order_then h.done (ToReport text ∷ []) true _ _ _ (h.emitted c) (order_report text true mid new k c);
     }
 
-    pub line_cut : (new : SinkSeen) → Emits text false mid.taken new.taken mid.faults new.faults → EmitsToReport (line_emissions lines) false old new
-    line_cut new k c =
+    pub line_cut : (said : List ℕ) (new : SinkSeen) → said ≡ text → Emits said false mid.taken new.taken mid.faults new.faults → EmitsToReport (line_emissions lines) false old new
+    line_cut said new is e c =
+        let k = emits_said said false new is e in
         let P : List Emission → Type 0 = λ l. EmitsInOrder l false (record { console = c; report = old }) (record { console = c; report = new }) in
         let later : List Emission = line_emissions (drop (i + 1) lines) in
         subst P (sym split)
@@ -40,3 +44,7 @@ module _ (lines : List (List ℕ)) (old : SinkSeen) where
       let P : List Emission → Type 0 = λ l. EmitsInOrder l true (record { console = c; report = old }) (record { console = c; report = new }) in
       let all : line_emissions lines ≡ h.done = h.same ∙ (ap (λ ls. h.done ++ line_emissions ls) none ∙ append-nil h.done) in
       subst P (sym all) (h.emitted c)
+
+-- what was appended to an empty line
+pub appended : (line old text : List ℕ) → line ≡ old ++ text → old ≡ [] → line ≡ text
+appended line old text e none = e ∙ ap (λ l. l ++ text) none

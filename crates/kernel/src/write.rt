@@ -1,5 +1,5 @@
 // What an event writes.
-ghost use Rattle.std.specs.Prelude.{◌≡◌, IfErr, OnErr, is_ok};
+ghost use Rattle.std.specs.Prelude.{◌≡◌, [], ◌∷◌, IfErr, OnErr, is_ok};
 ghost use Rattle.std.specs.Option.{option_to_list};
 ghost use Rattle.gc_outside.specs.Emissions.{EmitsInOrder, EmitsToConsole, EmitsToReport, line_emissions};
 ghost use Rattle.gc_outside.specs.Emits.{Emits};
@@ -15,6 +15,7 @@ use crate::run_end::{Fired, RunFault};
 use ev_queue::Due;
 use gc_outside::{Failed, Sink};
 use gc_text::LineBuf;
+use gm_model::Entry;
 
 impl Machine {
     ghost use Rattle.kernel.specs.Shown.{entries_of, named_of, traces};
@@ -47,25 +48,30 @@ impl Machine {
         ensures fault { IfErr result (λ f. (f ≡ RunFault.Report) × Rose (R.faults report.old) (R.faults report.new)) }
     {
         if self.trace {
-            self.write_lines(due, report).map_err(|_| RunFault::Report)
+            self.write_lines(due, self.out.entries(), report).map_err(|_| RunFault::Report)
         } else {
             Ok(())
         }
     }
 
-    /// Writes the lines of the last event, each in a call of its own.
+    /// Writes the lines of an event that noted these entries, each in a call of its own.
     #[cold]
     #[inline(never)]
-    fn write_lines<R: Sink>(&self, due: &Due, report: &mut R) -> Result<(), Failed>
-        ensures emitted { EmitsToReport (line_emissions (trace_lines (named_of self.now).parts due.now (entries_of self.now)))
-            (is_ok result) (sink_seen R.Sink report.old) (sink_seen R.Sink report.new) }
+    fn write_lines<R: Sink>(
+        &self,
+        due: &Due,
+        entries: &[Entry],
+        report: &mut R,
+    ) -> Result<(), Failed>
+        ensures emitted { EmitsToReport (line_emissions (trace_lines (named_of self.now).parts due.now entries.now)) (is_ok result)
+            (sink_seen R.Sink report.old) (sink_seen R.Sink report.new) }
         ensures cause { OnErr result (Rose (R.faults report.old) (R.faults report.new)) }
     {
         let mut line = LineBuf::new();
         self.counters
             .trace_head(due.tick, due.owner, due.slot, &mut line);
         emit(&line, report)?;
-        for entry in self.out.entries().iter() {
+        for entry in entries.iter() {
             line.clear();
             self.counters.trace_line(entry, &mut line);
             emit(&line, report)?;
@@ -82,6 +88,14 @@ fn emit<R: Sink>(line: &LineBuf, report: &mut R) -> Result<(), Failed>
     report.emit(line.bytes())
 }
 
+/// Hands the console a byte.
+fn emit_byte<C: Sink>(byte: u8, console: &mut C) -> Result<(), Failed>
+    ensures { Emits (byte ∷ []) (is_ok result)
+        (C.taken console.old) (C.taken console.new) (C.faults console.old) (C.faults console.new) }
+{
+    console.emit(&[byte])
+}
+
 /// Hands the console the byte that an event brought to it, if it did.
 fn write_byte<C: Sink>(byte: Option<u8>, console: &mut C) -> Result<(), RunFault>
     ensures emitted { EmitsToConsole (byte_emissions (option_to_list byte)) (is_ok result)
@@ -89,7 +103,10 @@ fn write_byte<C: Sink>(byte: Option<u8>, console: &mut C) -> Result<(), RunFault
     ensures fault { IfErr result (λ f. (f ≡ RunFault.Console) × Rose (C.faults console.old) (C.faults console.new)) }
 {
     match byte {
-        Some(byte) => console.emit(&[byte]).map_err(|_| RunFault::Console),
+        Some(byte) => match emit_byte(byte, console) {
+            Ok(()) => Ok(()),
+            Err(Failed) => Err(RunFault::Console),
+        },
         None => Ok(()),
     }
 }

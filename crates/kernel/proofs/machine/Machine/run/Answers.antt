@@ -54,7 +54,7 @@ returns-in_err-step-clause-emitted g c =
     let i = c.run.invariant in
     let n = retired_here _ _ c.run.events c.retired-start.result c.retired.result i.ran c.retired-start.ensures c.retired.ensures in
     let none = reason_is _ _ c.run.events i.ran c.args.g (c.retired.result - c.retired-start.result) _ n.1 c.in_default.ensures in
-    let cut = cut_run _ _ _ _ c.run.events i.ran (ap (λ (k : Named). k.parts) i.named) _ _ _ _ i.emitted c.step.ensures.emitted c.args.g refl i.none none in
+    let cut = cut_run _ _ _ _ c.run.events i.ran (ap (λ (k : Named). k.parts) i.named) _ _ _ _ i.emitted c.in_err-step.ensures.emitted c.args.g refl i.none none in
     rw (not_ok c.from_residual.result c.from_residual.ensures.0) cut
 
 pub returns-in_err-step-clause-stopped : goal.returns-in_err-step-clause-stopped
@@ -63,7 +63,7 @@ returns-in_err-step-clause-stopped g c =
     let n = retired_here _ _ c.run.events c.retired-start.result c.retired.result i.ran c.retired-start.ensures c.retired.ensures in
     let none = reason_is _ _ c.run.events i.ran c.args.g (c.retired.result - c.retired-start.result) _ n.1 c.in_default.ensures in
     let some = (goes_on c.args.g c.run.events (c.retired.result - c.retired-start.result) _ (sym c.in_default.ensures)).some in
-    let stops = stops_in_event _ _ _ _ c.run.events i.ran (ap (λ (k : Named). k.parts) i.named) _ _ _ _ i.emitted c.step.ensures.emitted c.args.g refl i.none none _ _ c.step.ensures.fired
+    let stops = stops_in_event _ _ _ _ c.run.events i.ran (ap (λ (k : Named). k.parts) i.named) _ _ _ _ i.emitted c.in_err-step.ensures.emitted c.args.g refl i.none none _ _ c.step.ensures.fired
         (noted_by _ _ _ some c.step.ensures.entries) in
     search (rules, stops)
 
@@ -75,7 +75,7 @@ run-preserved g c =
     record {
       ran = run_more _ _ c.run.events i.ran _ c.step.ensures.fired;
       none = none_before c.args.g _ c.run.events i.none (reason_is _ _ c.run.events i.ran c.args.g (c.retired.result - c.retired-start.result) _ n.1 c.in_default.ensures);
-      emitted = emitted_more _ _ _ _ c.run.events i.ran (ap (λ (k : Named). k.parts) i.named) _ _ _ _ i.emitted c.step.ensures.emitted;
+      emitted = emitted_more _ _ _ _ c.run.events i.ran (ap (λ (k : Named). k.parts) i.named) _ _ _ _ i.emitted c.in_ok-step.ensures.emitted;
       noted = noted_more _ _ c.run.events i.ran _ _ (noted_by _ _ _ some c.step.ensures.entries);
       named = c.step.ensures.named ∙ i.named;
       counted = omega (arith, i.counted, events_running _ _ i.machine.sound c.args.g c.run.events (c.retired.result - c.retired-start.result) c.in_default.ensures _ c.step.ensures.fired);
