@@ -48,7 +48,8 @@ impl Machine {
         ensures fault { IfErr result (λ f. (f ≡ RunFault.Report) × Rose (R.faults report.old) (R.faults report.new)) }
     {
         if self.trace {
-            self.write_lines(due, self.out.entries(), report).map_err(|_| RunFault::Report)
+            self.write_lines(due, self.out.entries(), report)
+                .map_err(|_| RunFault::Report)
         } else {
             Ok(())
         }

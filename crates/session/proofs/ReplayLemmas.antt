@@ -58,8 +58,8 @@ silent_replayed s w table h alike e n = record {
   steady = h;
   wiring = alike;
   replays = (let P : ProgramState → Type 0 = λ p. replay s.router.routes (program_state s []) [] ≡ Some p in
-  let Q : List Entry → Type 0 = λ es. replay s.router.routes (program_state s []) es ≡ Some (program_state w.sys []) in
-  subst Q (sym n) (subst P (sym e) (no_run s)));
+      let Q : List Entry → Type 0 = λ es. replay s.router.routes (program_state s []) es ≡ Some (program_state w.sys []) in
+      subst Q (sym n) (subst P (sym e) (no_run s)));
 }
 
 -- bytes of input come

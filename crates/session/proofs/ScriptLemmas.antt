@@ -1,10 +1,10 @@
 -- What a machine has written while it carries out a script.
-use Rattle.std.proofs.Common.{◌≡◌, ℕ, suc, zero, ◌+◌, ◌-◌, ◌<◌, ◌≤◌, ◌⊎◌, inl, inr, ◌++◌, refl, sym, ◌∙◌, ap, subst, arith, add-one, append_assoc, append-nil, List, [], ◌∷◌, length, drop, take, map, get_or, slice_get, Option, Some, None, IsSome, Bool, true, false, Result, Ok, Err, is_ok}
-use Rattle.std.specs.Prelude.{IfErr, OnOk}
-use Rattle.std.proofs.Math.ListN.{drop_of_length-le, take_of_length-le}
+use Rattle.std.proofs.Common.{◌≡◌, ℕ, suc, zero, ◌+◌, ◌-◌, ◌<◌, ◌≤◌, ◌⊎◌, inl, inr, ◌++◌, refl, sym, ◌∙◌, ap, subst, arith, add-one, append_assoc, append-nil, List, [], ◌∷◌, length, drop, take, get_or, Option, Some, None, IsSome, Bool, true, false}
+use Rattle.std.specs.Prelude.{IfErr, OnOk, Result, Ok, Err, is_ok}
+use Rattle.std.proofs.Math.ListN.{drop_of_length-le}
 use Rattle.std.proofs.Math.Seq.{drop-cons, take-add}
 use Rattle.std.proofs.lemmas.Bool.{cases_lt}
-use Rattle.std.proofs.lemmas.List.{length-append, length-map, take-append-drop, take-map}
+use Rattle.std.proofs.lemmas.List.{take-append-drop}
 use Rattle.cfg_tree.specs.declared.config.Config.{Config}
 use Rattle.gc_outside.specs.Emits.{Emits}
 use Rattle.ev_queue.specs.declared.due.Due.{Due}
@@ -148,7 +148,8 @@ module _ (c : Config) (start : Sys) (list : List Stop) (old : Sinks) where
   pub done_all : (i : ℕ) (now : Sys) (new : Sinks) → length list ≤ i → HasDone c start list i now old new → (e : Ending) × ScriptComesTo c start list e × Leaves e status.Done old new
   done_all i now new l h =
       let P : List Stop → Type 0 = λ ys. EmitsInOrder (script_written c start ys).emissions true old new in
-      let all = subst P (take_of_length-le list l) h.emitted in
+      let whole : take i list ≡ list = sym (append-nil (take i list)) ∙ (ap (λ ys. take i list ++ ys) (sym (drop_of_length-le list l)) ∙ take-append-drop i list) in
+      let all = subst P whole h.emitted in
       (work_done (script_written c start list).emissions, inl refl, inl (refl, all.all refl))
 
 -- the line of a run, as it is told

@@ -1,9 +1,7 @@
 // A script is carried out by a machine.
 ghost use Rattle.std.specs.Prelude.{◌≡◌, ◌≤◌, ◌<◌, ◌+◌, ◌^◌, ◌++◌, true, codes, length, map, is_ok, IfErr, IfOk, OnOk};
 ghost use Rattle.cfg_tree.specs.Valid.{IsValidConfig};
-ghost use Rattle.cfg_tree.specs.declared.config.Config.{Config};
 ghost use Rattle.gc_outside.specs.Emissions.{EmitsInOrder, EmitsToReport, line_emissions};
-ghost use Rattle.gc_outside.specs.Emits.{Emits};
 ghost use Rattle.gc_outside.specs.Sinks.{sink_seen, sinks};
 ghost use Rattle.kernel.specs.Shown.{named_by, named_of, sys_seen, IsSeen};
 ghost use Rattle.probe_stats.specs.Stats.{json_text, stats_line, stats_pairs};
@@ -11,7 +9,7 @@ ghost use Rattle.session.specs.Ending.{Ending, Leaves, SaysMemory, status_of};
 ghost use Rattle.session.specs.Registers.{register_lines};
 ghost use Rattle.session.specs.Script.{run_reason, run_line, input_line, stop_written, ScriptComesTo, StopFails};
 ghost use Rattle.session.specs.declared.status.Status.{Status};
-ghost use Rattle.stop_script.specs.declared.stop.Stop.TheVariants.{Run, Input};
+ghost use Rattle.stop_script.specs.declared.stop.Stop.TheVariants.{Run};
 
 use crate::lines::say;
 use crate::registers::put_registers;
@@ -154,7 +152,10 @@ fn or_sink(done: Result<(), Failed>) -> Result<(), Status>
     ensures same { is_ok result ≡ is_ok done }
     ensures status { IfErr result (λ s. s ≡ Status.Sink) }
 {
-    done.map_err(|_| Status::Sink)
+    match done {
+        Ok(()) => Ok(()),
+        Err(_) => Err(Status::Sink),
+    }
 }
 
 /// Carries out one stop.

@@ -64,7 +64,7 @@ returns-in_err-step-clause-stopped g c =
     let none = reason_is _ _ c.run.events i.ran c.args.g (c.retired.result - c.retired-start.result) _ n.1 c.in_default.ensures in
     let some = (goes_on c.args.g c.run.events (c.retired.result - c.retired-start.result) _ (sym c.in_default.ensures)).some in
     let stops = stops_in_event _ _ _ _ c.run.events i.ran (ap (λ (k : Named). k.parts) i.named) _ _ _ _ i.emitted c.in_err-step.ensures.emitted c.args.g refl i.none none _ _ c.step.ensures.fired
-        (noted_by _ _ _ some c.step.ensures.entries) in
+    (noted_by _ _ _ some c.step.ensures.entries) in
     search (rules, stops)
 
 pub run-preserved : goal.run-preserved
