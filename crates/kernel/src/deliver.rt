@@ -58,6 +58,7 @@ impl Machine {
         ensures none { OnFalse result (delivery_of state self.new ≡ delivery_of state self.old) }
         ensures landed { OnFalse result (self.old.out.items ≡ []) }
         ensures table { self.new.queue.table ≡ self.old.queue.table }
+        ensures counters { self.new.counters ≡ self.old.counters }
     {
         let none_left = self.out.is_empty();
         if none_left {
@@ -179,6 +180,7 @@ impl Machine {
         ensures told { Delivers 0 (done_at (delivery_of state self.old) sender.0 packet latency)
             (delivery_of state self.new) }
         ensures table { self.new.queue.table ≡ self.old.queue.table }
+        ensures counters { self.new.counters ≡ self.old.counters }
     {
         if self.out.is_empty() {
             let done = Wake::AtomicDone {
@@ -199,6 +201,7 @@ impl Machine {
         ensures delivered { delivery_of state self.new ≡ deliver_wake (delivery_of state self.old) i.0 w }
         ensures answer { result ≡ (step_at (sys_of state self.old) i.0 w).answer }
         ensures table { self.new.queue.table ≡ self.old.queue.table }
+        ensures counters { self.new.counters ≡ self.old.counters }
     {
         self.out.for_sender(i);
         wake_box(
@@ -218,6 +221,7 @@ impl Machine {
         ensures delivered { delivery_of state self.new ≡ deliver_offer (delivery_of state self.old) sender.0 port.0 packet
             (peer_in (sys_of state self.old).wires sender.0 port.0) }
         ensures table { self.new.queue.table ≡ self.old.queue.table }
+        ensures counters { self.new.counters ≡ self.old.counters }
     {
         let shown = peer(self.platform.as_slice(), sender, port);
         let answer = self.wake(
@@ -239,6 +243,7 @@ impl Machine {
         ensures delivered { delivery_of state self.new
             ≡ deliver_line (delivery_of state self.old) (Line bit level) (active_cpu (sys_of state self.old).objects) }
         ensures table { self.new.queue.table ≡ self.old.queue.table }
+        ensures counters { self.new.counters ≡ self.old.counters }
     {
         if let Some(cpu) = self.active_cpu() {
             self.wake(cpu, Wake::Line { bit, level });
@@ -267,6 +272,7 @@ impl Machine {
             ≡ deliver_atomic (delivery_of state self.old) sender packet.old
             (destination (sys_of state self.old).router.routes packet.old.addr) }
         ensures table { self.new.queue.table ≡ self.old.queue.table }
+        ensures counters { self.new.counters ≡ self.old.counters }
     {
         let way = self.router.latency();
         match self.router.destination(packet.addr) {
@@ -288,6 +294,7 @@ impl Machine {
         ensures latency { result ≡ way_latency (pass_at (sys_of state self.old) server.0 packet.old).way }
         ensures most { result ≤ LATENCY_MAX }
         ensures table { self.new.queue.table ≡ self.old.queue.table }
+        ensures counters { self.new.counters ≡ self.old.counters }
     {
         self.out.for_sender(server);
         let way = pass_box(

@@ -2,6 +2,7 @@
 use Rattle.std.proofs.Common.{◌≡◌, ℕ, zero, suc, ◌+◌, ◌-◌, ◌*◌, ◌<◌, ◌≤◌, ◌&&◌, nat_le, Bool, true, false, List, [], ◌∷◌, ◌++◌, length, map, min, take, drop, get_or, slice_get, All, add-one, Option, Some, None, option_map, Ordering, Less, Equal, Greater, refl, sym, ap, ◌∙◌, arith}
 use Rattle.std.proofs.lemmas.Bool.{and_parts, leb-true}
 use Rattle.std.proofs.lemmas.List.Elements.{All-head, All-tail}
+use Rattle.std.proofs.lemmas.Option.{slice_get_past}
 use Rattle.std.specs.Cmp.Lexicographic.{slice_cmp}
 use Rattle.std.specs.Ordering.{match_ordering, nat_cmp}
 use Rattle.serde_json.specs.Data.{Data, number, unsigned, Members, member, put}
@@ -11,6 +12,7 @@ use Rattle.gm_words.specs.Shown.{part_shown}
 use Rattle.gm_words.specs.declared.platform.Part.{Part as KeptPart}
 use Rattle.probe_stats.specs.Counted.{Counted, HasShortPath}
 use Rattle.probe_stats.specs.Stats.{Pair, cache_pairs, cache_paths, caches_pairs, count_at, machine_pairs, members_of, stats_pairs}
+use Rattle.probe_stats.specs.Trace.{path_at}
 
 -- ---- the count of a path
 
@@ -154,3 +156,7 @@ put_next c now n p few e = rw add-one (put_last (stats_pairs c now) n p (are_ris
 pub no_floats : (ps : List Pair) → members_have_float (members_of ps) ≡ false
 no_floats [] = refl
 no_floats (p ∷ ps) = no_floats ps
+
+-- there is no part past the last one, and so no path
+pub no_path : (ps qs : List Part) (i : ℕ) (path : List ℕ) → path ≡ [] → qs ≡ ps → length ps ≤ i → path ≡ path_at qs i
+no_path ps qs i path none same l = rw (same, slice_get_past ps i l) none

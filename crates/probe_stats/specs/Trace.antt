@@ -53,14 +53,3 @@ entry_lines parts (e ∷ es) = entry_line parts e ++ entry_lines parts es
 abbrev pub event_head : List Part → ℕ → ℕ → ℕ → List ℕ
 event_head parts tick object slot =
     codes "@" ++ decimal tick ++ codes " " ++ path_at parts object ++ codes " " ++ decimal slot ++ codes "\n"
-
--- an entry that can be traced: its object is a part, and its access is of a source that is noted, of at most eight bytes
-abbrev pub IsTraced : List Part → Entry → Type 0
-IsTraced parts (entries.Served src id write addr size bytes device fault) = (src ≤ 2) × (size ≤ 8)
-IsTraced parts (entries.Retired pc word) = Unit {0}
-IsTraced parts (entries.Trapped cause tval) = Unit {0}
-IsTraced parts (entries.Line bit level) = Unit {0}
-IsTraced parts entries.Slept = Unit {0}
-IsTraced parts (entries.Hit object) = object.0 < length parts
-IsTraced parts (entries.Miss object) = object.0 < length parts
-IsTraced parts (entries.Refused object) = object.0 < length parts

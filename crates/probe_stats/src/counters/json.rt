@@ -11,7 +11,6 @@ use std::alloc::Global;
 impl Counters {
     /// The statistics at a tick as one JSON object with no space, in the order of the lines.
     pub fn json(&self, alloc: Global, now: Tick) -> Result<Vec<u8>, NoMemory>
-        requires later { self.now.since ≤ now }
         ensures { IfOk result (λ text. text.items ≡ json_text (stats_pairs self.now now)) }
     {
         let members = self.members(alloc, now)?;
@@ -20,7 +19,6 @@ impl Counters {
 
     /// The members of the object.
     fn members(&self, alloc: Global, now: Tick) -> Result<Map<String, Value>, NoMemory>
-        requires { self.now.since ≤ now }
         ensures { IfOk result (λ m. members_view m.entries ≡ members_of (stats_pairs self.now now)) }
     {
         let mut members = Map::new(alloc);

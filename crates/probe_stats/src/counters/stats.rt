@@ -23,7 +23,6 @@ const CACHE_PAIRS: usize = 3;
 impl Counters {
     /// Appends the n-th line of the statistics at a tick, with its line feed, or answers false where there are no more.
     pub fn text_line(&self, n: u32, now: Tick, b: &mut LineBuf) -> bool
-        requires later { self.now.since ≤ now }
         requires room { length b.old + 64 ≤ MAX_LINE }
         ensures more { IsTrue result ↔ (n < length (stats_pairs self.now now)) }
         ensures value { IfSome (slice_get (stats_pairs self.now now) n) (λ p. b.new ≡ b.old ++ stats_line p) }
@@ -40,7 +39,6 @@ impl Counters {
 
     /// The n-th pair at a tick.
     pub(super) fn pair(&self, n: usize, now: Tick) -> Option<Pair>
-        requires { self.now.since ≤ now }
         ensures value { option_map pair_shown result ≡ slice_get (stats_pairs self.now now) n }
         ensures caches { self.now.caches ≤ 3 }
     {
@@ -71,7 +69,6 @@ impl Counters {
 
     /// The pairs of all machines.
     fn machine_pairs(&self, now: Tick) -> [Pair; 12]
-        requires { self.now.since ≤ now }
         ensures { map pair_shown result ≡ machine_pairs self.now now }
     {
         [
@@ -86,7 +83,7 @@ impl Counters {
             named("ram.reads", self.ram_reads),
             named("ram.writes", self.ram_writes),
             named("sim.events", self.events),
-            named("sim.ticks", now.get() - self.since.get()),
+            named("sim.ticks", now.get().saturating_sub(self.since.get())),
         ]
     }
 

@@ -2,7 +2,7 @@
 ghost use Rattle.std.specs.Prelude.{◌≡◌, ◌+◌, ◌<◌, ◌≤◌, ◌++◌, codes, decimal, length, take};
 ghost use Rattle.gc_text.specs.Hexadecimal.{hex8, hex16, hex_of};
 ghost use Rattle.gm_words.specs.Shown.{part_shown};
-ghost use Rattle.probe_stats.specs.Trace.{IsTraced, answer_words, entry_line, entry_words, event_head, level_word, path_at, request_words, source_letter};
+ghost use Rattle.probe_stats.specs.Trace.{answer_words, entry_line, entry_words, event_head, level_word, path_at, request_words, source_letter};
 
 use super::Counters;
 use gc_base::{ObjId, PktId, SlotNo, Tick};
@@ -13,7 +13,6 @@ impl Counters {
     /// Appends the line that a traced event begins with: its tick, its object's path and its slot.
     #[tactic(auto, using(gc_text::proofs::DecimalLemmas::decimal_is_short))]
     pub fn trace_head(&self, at: Tick, object: ObjId, slot: SlotNo, b: &mut LineBuf)
-        requires part { object.0 < length self.now.parts }
         requires room { length b.old + 128 ≤ MAX_LINE }
         ensures { b.new ≡ b.old ++ event_head self.now.parts at object.0 slot.0 }
     {
@@ -28,7 +27,6 @@ impl Counters {
 
     /// Appends the line of an entry.
     pub fn trace_line(&self, e: &Entry, b: &mut LineBuf)
-        requires traced { IsTraced self.now.parts e.now }
         requires room { length b.old + 128 ≤ MAX_LINE }
         ensures { b.new ≡ b.old ++ entry_line self.now.parts e.now }
     {
@@ -39,7 +37,6 @@ impl Counters {
     /// Appends the words of an entry.
     #[tactic(auto, using(gc_text::proofs::DecimalLemmas::decimal_is_short))]
     fn put_entry(&self, b: &mut LineBuf, e: &Entry)
-        requires traced { IsTraced self.now.parts e.now }
         requires room { length b.old + 120 ≤ MAX_LINE }
         ensures value { b.new ≡ b.old ++ entry_words self.now.parts e.now }
         ensures short { length b.new ≤ length b.old + 100 }
@@ -58,7 +55,7 @@ impl Counters {
                 put_text(b, b"served ");
                 put_request(b, *src, *id, *write, *addr);
                 put_text(b, b" ");
-                put_answer(b, *device, &bytes[..*size as usize], *fault);
+                put_answer(b, *size, *device, front(bytes, *size), *fault);
             }
             Entry::Retired { pc, word } => {
                 put_text(b, b"retired ");
@@ -86,7 +83,6 @@ impl Counters {
 
     /// Appends what was noted of an object, and its path.
     fn put_object(&self, b: &mut LineBuf, what: &[u8], object: ObjId)
-        requires part { object.0 < length self.now.parts }
         requires word { length what.now ≤ 8 }
         requires room { length b.old + 32 ≤ MAX_LINE }
         ensures value { b.new ≡ b.old ++ what.now ++ path_at self.now.parts object.0 }
@@ -96,20 +92,23 @@ impl Counters {
         put_text(b, self.path(object));
     }
 
-    /// The path of a part.
+    /// The path of a part; no bytes where there is no such part.
     fn path(&self, object: ObjId) -> &'static [u8]
-        requires { object.0 < length self.now.parts }
         ensures path { result.now ≡ path_at self.now.parts object.0 }
         ensures short { length result.now ≤ 16 }
     {
-        self.parts[object.0 as usize].path.as_bytes()
+        let place = object.0 as usize;
+        if place < self.parts.len() {
+            self.parts[place].path.as_bytes()
+        } else {
+            b""
+        }
     }
 }
 
 /// Appends what an access asks for.
 #[tactic(auto, using(gc_text::proofs::DecimalLemmas::decimal_is_short))]
 fn put_request(b: &mut LineBuf, src: u8, id: PktId, write: bool, addr: u64)
-    requires source { src ≤ 2 }
     requires room { length b.old + 64 ≤ MAX_LINE }
     ensures value { b.new ≡ b.old ++ request_words src id.0 write addr }
     ensures short { length b.new ≤ length b.old + 41 }
@@ -123,13 +122,13 @@ fn put_request(b: &mut LineBuf, src: u8, id: PktId, write: bool, addr: u64)
 
 /// Appends of how many bytes an access is, who served it, the bytes, and whether it was refused.
 #[tactic(auto, using(gc_text::proofs::DecimalLemmas::decimal_is_short))]
-fn put_answer(b: &mut LineBuf, device: bool, bytes: &[u8], fault: bool)
+fn put_answer(b: &mut LineBuf, size: u8, device: bool, bytes: &[u8], fault: bool)
     requires size { length bytes.now ≤ 8 }
     requires room { length b.old + 64 ≤ MAX_LINE }
-    ensures value { b.new ≡ b.old ++ answer_words (length bytes.now) device bytes.now fault }
+    ensures value { b.new ≡ b.old ++ answer_words size device bytes.now fault }
     ensures short { length b.new ≤ length b.old + 47 }
 {
-    put_dec(b, bytes.len() as u64);
+    put_dec(b, u64::from(size));
     put_text(b, if device { b" dev " } else { b" ram " });
     put_hex_bytes(b, bytes);
     if fault {
@@ -137,9 +136,20 @@ fn put_answer(b: &mut LineBuf, device: bool, bytes: &[u8], fault: bool)
     }
 }
 
+/// As many of an entry's bytes as its size says: all of them, where it says more.
+fn front(bytes: &[u8; 8], size: u8) -> &[u8]
+    ensures value { result.now ≡ take size bytes.now }
+    ensures short { length result.now ≤ 8 }
+{
+    if size < 8 {
+        &bytes[..size as usize]
+    } else {
+        bytes
+    }
+}
+
 /// The letter of a source: instructions, data, or the DMA engine.
 fn source_letter(src: u8) -> &'static [u8]
-    requires { src ≤ 2 }
     ensures letter { result.now ≡ source_letter src }
     ensures one { length result.now ≡ 1 }
 {
