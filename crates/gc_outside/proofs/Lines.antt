@@ -48,3 +48,16 @@ module _ (lines : List (List ℕ)) (old : SinkSeen) where
 -- what was appended to an empty line
 pub appended : (line old text : List ℕ) → line ≡ old ++ text → old ≡ [] → line ≡ text
 appended line old text e none = e ∙ ap (λ l. l ++ text) none
+
+-- a first line that was not taken whole, and one behind which others were emitted
+pub first_cut : (said head : List ℕ) (lines : List (List ℕ)) (old new : SinkSeen) → said ≡ head → Emits said false old.taken new.taken old.faults new.faults
+    → EmitsToReport (line_emissions (head ∷ lines)) false old new
+first_cut said head lines old new is e c =
+    let P : List ℕ → Type 0 = λ l. EmitsInOrder (ToReport l ∷ []) false (record { console = c; report = old }) (record { console = c; report = new }) in
+    order_cut (ToReport head ∷ []) (line_emissions lines) _ _ (subst P is (order_report said false old new e c))
+
+pub first_then : (said head : List ℕ) (lines : List (List ℕ)) (ok : Bool) (old mid new : SinkSeen) → said ≡ head → Emits said true old.taken mid.taken old.faults mid.faults
+    → EmitsToReport (line_emissions lines) ok mid new → EmitsToReport (line_emissions (head ∷ lines)) ok old new
+first_then said head lines ok old mid new is e k c =
+    let P : List ℕ → Type 0 = λ l. EmitsInOrder (ToReport l ∷ []) true (record { console = c; report = old }) (record { console = c; report = mid }) in
+    order_then (ToReport head ∷ []) (line_emissions lines) ok _ _ _ (subst P is (order_report said true old mid e c)) (k c)

@@ -1,13 +1,14 @@
 -- What events and runs have written.
-use Rattle.std.proofs.Common.{◌≡◌, ℕ, zero, suc, ◌+◌, ◌-◌, ◌<◌, ◌≤◌, ◌++◌, refl, sym, ◌∙◌, ap, subst, arith, add-one, append_assoc, append-nil, Bool, true, false, List, [], ◌∷◌, length, drop, map, get_or, IsSome, MatchOption, Option, Some, None}
+use Rattle.std.proofs.Common.{◌≡◌, ℕ, zero, suc, ◌+◌, ◌-◌, ◌<◌, ◌≤◌, ◌++◌, refl, sym, ◌∙◌, ap, subst, arith, add-one, append_assoc, append-nil, Bool, true, false, List, [], ◌∷◌, length, drop, map, get_or, IsSome, MatchOption, Option, Some, None, option_to_list}
 use Rattle.std.proofs.Math.ListN.{drop_of_length-le}
 use Rattle.std.proofs.Math.Seq.{drop-cons}
 use Rattle.std.proofs.lemmas.List.{get_or-map, length-map}
 use Rattle.ev_queue.specs.declared.due.Due.{Due}
 use Rattle.ev_queue.specs.PendingList.{first}
-use Rattle.gc_outside.specs.Emissions.{Emission, EmitsInOrder}
-use Rattle.gc_outside.specs.Sinks.{Sinks}
-use Rattle.gc_outside.proofs.InOrder.{order_nothing, order_then, order_cut}
+use Rattle.gc_outside.specs.Emissions.{Emission, EmitsInOrder, EmitsToConsole, EmitsToReport}
+use Rattle.gc_outside.specs.Emits.{Emits}
+use Rattle.gc_outside.specs.Sinks.{SinkSeen, Sinks}
+use Rattle.gc_outside.proofs.InOrder.{order_console, order_nothing, order_then, order_cut}
 use Rattle.gc_outside.proofs.Outputs.{rose_later}
 use Rattle.gm_model.specs.Fire.{Ran, fire_first, timed_run}
 use Rattle.gm_model.specs.Run.{RunEnd, run_to, reason_at}
@@ -17,7 +18,7 @@ use Rattle.gm_words.specs.declared.entry.Entry.{Entry}
 use Rattle.gm_words.specs.declared.goal.Goal.{Goal}
 use Rattle.gm_words.specs.declared.goal.Reason.{Reason}
 use Rattle.probe_stats.specs.Trace.{entry_line}
-use Rattle.kernel.specs.Emitted.{due_emissions, event_emissions, first_emissions, timed_emissions, run_emissions}
+use Rattle.kernel.specs.Emitted.{byte_emissions, due_emissions, event_emissions, first_emissions, timed_emissions, run_emissions}
 use Rattle.kernel.specs.Ends.{StopsInEvent, IsFaultOf}
 use Rattle.kernel.specs.declared.run_end.RunFault.{RunFault}
 use Rattle.kernel.specs.declared.run_end.RunFault.TheVariants as faults
@@ -38,9 +39,11 @@ pub none_wrote : (parts : List Part) (s : Sys) (a : Sinks) → first s.pending �
 none_wrote parts s a is = let R : Option Due → Type 0 = λ o. EmitsInOrder (due_emissions parts s o) true a a in subst R (sym is) (order_nothing a)
 
 -- what it noted, where there is one
-pub noted_by : (o : Option Due) (A B : Type 0) → IsSome o → MatchOption o A (λ d. B) → B
-noted_by None A B h m = cc
-noted_by (Some d) A B h m = m
+pub step_noted : (s : Sys) (old new : List Entry) → IsSome (first s.pending) → MatchOption (first s.pending) (new ≡ old) (λ d. new ≡ (fire_first s).entries) → new ≡ (fire_first s).entries
+step_noted s old new some told = by (first s.pending) some told where
+  by : (o : Option Due) → IsSome o → MatchOption o (new ≡ old) (λ d. new ≡ (fire_first s).entries) → new ≡ (fire_first s).entries
+  by None h m = cc
+  by (Some d) h m = m
 
 -- before its first event a run has written nothing
 pub begun_emissions : (parts : List Part) (s : Sys) (a : Sinks) → EmitsInOrder (timed_emissions parts s 0) true a a
@@ -112,12 +115,32 @@ fault_later faults.Console c c' c'' r r' r'' l m h = rose_later c c' c'' l h
 fault_later faults.Report c c' c'' r r' r'' l m h = rose_later r r' r'' m h
 
 -- the line of an entry comes next
-pub entry_next : (parts : List Part) (head : List ℕ) (es : List Entry) (i : ℕ) (x d : Entry) → i < length es → x ≡ get_or es i d
-    → (let lines : List (List ℕ) = head ∷ map (λ e. entry_line parts e) es in drop (i + 1) lines ≡ entry_line parts x ∷ drop (i + 1 + 1) lines)
-entry_next parts head es i x d here is =
+pub entry_next : (parts : List Part) (es : List Entry) (i : ℕ) (x d : Entry) → i < length es → x ≡ get_or es i d
+    → (let lines : List (List ℕ) = map (λ e. entry_line parts e) es in drop i lines ≡ entry_line parts x ∷ drop (i + 1) lines)
+entry_next parts es i x d here is =
     let lines : List (List ℕ) = map (λ e. entry_line parts e) es in
-    rw (add-one, add-one) (drop-cons lines i (entry_line parts x) (rw length-map here)
+    rw add-one (drop-cons lines i (entry_line parts x) (rw length-map here)
     ∙ ap (λ l. l ∷ drop (suc i) lines) (get_or-map (λ e. entry_line parts e) es i d (entry_line parts x) here ∙ sym (ap (λ e. entry_line parts e) is)))
 
-pub no_entry_next : (parts : List Part) (head : List ℕ) (es : List Entry) (i : ℕ) → length es ≤ i → drop (i + 1) (head ∷ map (λ e. entry_line parts e) es) ≡ []
-no_entry_next parts head es i l = rw add-one (drop_of_length-le (map (λ e. entry_line parts e) es) (rw length-map l))
+pub no_entry_next : (parts : List Part) (es : List Entry) (i : ℕ) → length es ≤ i → drop i (map (λ e. entry_line parts e) es) ≡ []
+no_entry_next parts es i l = drop_of_length-le (map (λ e. entry_line parts e) es) (rw length-map l)
+
+-- what an event writes: its byte, or a front of it
+pub byte_wrote : (o : Option ℕ) (b : ℕ) (ok : Bool) (old new : SinkSeen) → o ≡ Some b → Emits (b ∷ []) ok old.taken new.taken old.faults new.faults
+    → EmitsToConsole (byte_emissions (option_to_list o)) ok old new
+byte_wrote o b ok old new is h report =
+    let P : Option ℕ → Type 0 = λ x. EmitsInOrder (byte_emissions (option_to_list x)) ok (record { console = old; report = report }) (record { console = new; report = report }) in
+    subst P (sym is) (order_console (b ∷ []) ok old new h report)
+
+pub event_cut : (bytes bytes' : List ℕ) (rest : List Emission) (old new report : SinkSeen) → bytes ≡ bytes' → EmitsToConsole (byte_emissions bytes) false old new
+    → EmitsInOrder (byte_emissions bytes' ++ rest) false (record { console = old; report = report }) (record { console = new; report = report })
+event_cut bytes bytes' rest old new report e h =
+    let P : List ℕ → Type 0 = λ l. EmitsInOrder (byte_emissions l) false (record { console = old; report = report }) (record { console = new; report = report }) in
+    order_cut (byte_emissions bytes') rest _ _ (subst P e (h report))
+
+pub event_then : (bytes bytes' : List ℕ) (rest : List Emission) (ok : Bool) (old new report report' : SinkSeen) → bytes ≡ bytes' → EmitsToConsole (byte_emissions bytes) true old new
+    → EmitsToReport rest ok report report'
+    → EmitsInOrder (byte_emissions bytes' ++ rest) ok (record { console = old; report = report }) (record { console = new; report = report' })
+event_then bytes bytes' rest ok old new report report' e h k =
+    let P : List ℕ → Type 0 = λ l. EmitsInOrder (byte_emissions l) true (record { console = old; report = report }) (record { console = new; report = report }) in
+    order_then (byte_emissions bytes') rest ok _ _ _ (subst P e (h report)) (k new)

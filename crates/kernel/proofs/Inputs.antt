@@ -54,11 +54,8 @@ module _ (bytes : List ℕ) (i x d : ℕ) (here : i < length bytes) (is : x ≡ 
         let R : Sys → Type 0 = λ y. n + ((cond took 1 0) + input_taken (drop (i + 1) bytes) y) ≡ all in
         subst R (sym fed_is) (subst Q (sym one) (subst P next h))
 
-    pub taken_more : took ≡ true → n + 1 + input_taken (drop (i + 1) bytes) t ≡ all
-    taken_more e = let P : Bool → Type 0 = λ b. n + ((cond b 1 0) + input_taken (drop (i + 1) bytes) t) ≡ all in let k = subst P e split in omega (arith, k)
-
-    pub taken_same : took ≡ false → n + input_taken (drop (i + 1) bytes) t ≡ all
-    taken_same e = let P : Bool → Type 0 = λ b. n + ((cond b 1 0) + input_taken (drop (i + 1) bytes) t) ≡ all in let k = subst P e split in omega (arith, k)
+    pub taken_more : (k : ℕ) → k ≡ cond took 1 0 → n + k + input_taken (drop (i + 1) bytes) t ≡ all
+    taken_more k e = omega (arith, split, e)
 
 pub all_given : (bytes : List ℕ) (i : ℕ) (s u : Sys) → length bytes ≤ i → input_given (drop i bytes) s ≡ u → s ≡ u
 all_given bytes i s u l h = let P : List ℕ → Type 0 = λ bs. input_given bs s ≡ u in subst P (drop_of_length-le bytes l) h
@@ -68,18 +65,18 @@ all_taken bytes i n all s l h =
     let P : List ℕ → Type 0 = λ bs. n + input_taken bs s ≡ all in let k = subst P (drop_of_length-le bytes l) h in omega (arith, k)
 
 -- a UART has 256 places, so few bytes are taken
-free_in : Device → ℕ
+abbrev free_in : Device → ℕ
 free_in (Memory m) = 0
 free_in (Uart u) = 256 - length u.input
 free_in (Exit code) = 0
 free_in (Timer t) = 0
 
-free : ObjState → ℕ
+abbrev free : ObjState → ℕ
 free (Blank k) = 0
 free (AtomicCpu s) = 0
 free (Server s) = free_in s.device
 
-free_all : List ObjState → ℕ
+abbrev free_all : List ObjState → ℕ
 free_all [] = 0
 free_all (o ∷ os) = free o + free_all os
 

@@ -18,9 +18,7 @@ impl Machine {
     {
         let mut taken = 0;
         for byte in bytes.iter() {
-            if self.feed(*byte) {
-                taken += 1;
-            }
+            taken += u32::from(self.feed(*byte));
         }
         taken
     }

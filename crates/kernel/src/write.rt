@@ -1,11 +1,12 @@
 // What an event writes.
-ghost use Rattle.std.specs.Prelude.{◌≡◌, [], ◌∷◌, IfErr, OnErr, is_ok};
+ghost use Rattle.std.specs.Prelude.{◌≡◌, ◌≤◌, [], ◌∷◌, map, IfErr, is_ok};
 ghost use Rattle.std.specs.Option.{option_to_list};
 ghost use Rattle.gc_outside.specs.Emissions.{EmitsInOrder, EmitsToConsole, EmitsToReport, line_emissions};
 ghost use Rattle.gc_outside.specs.Emits.{Emits};
 ghost use Rattle.gc_outside.specs.Faults.{Rose};
 ghost use Rattle.gc_outside.specs.Sinks.{sink_seen, sinks};
 ghost use Rattle.gm_words.specs.Entries.{console_of};
+ghost use Rattle.probe_stats.specs.Trace.{entry_line};
 ghost use Rattle.kernel.specs.Emitted.{byte_emissions, event_emissions, trace_emissions, trace_lines};
 ghost use Rattle.kernel.specs.Ends.{IsFaultOf};
 ghost use Rattle.kernel.specs.declared.run_end.RunFault.{RunFault};
@@ -13,7 +14,7 @@ ghost use Rattle.kernel.specs.declared.run_end.RunFault.{RunFault};
 use crate::machine::Machine;
 use crate::run_end::{Fired, RunFault};
 use ev_queue::Due;
-use gc_outside::{Failed, Sink};
+use gc_outside::Sink;
 use gc_text::LineBuf;
 use gm_model::Entry;
 
@@ -49,7 +50,6 @@ impl Machine {
     {
         if self.trace {
             self.write_lines(due, self.out.entries(), report)
-                .map_err(|_| RunFault::Report)
         } else {
             Ok(())
         }
@@ -63,38 +63,56 @@ impl Machine {
         due: &Due,
         entries: &[Entry],
         report: &mut R,
-    ) -> Result<(), Failed>
-        ensures emitted { EmitsToReport (line_emissions (trace_lines (named_of self.now).parts due.now entries.now)) (is_ok result)
-            (sink_seen R.Sink report.old) (sink_seen R.Sink report.new) }
-        ensures cause { OnErr result (Rose (R.faults report.old) (R.faults report.new)) }
+    ) -> Result<(), RunFault>
+        ensures emitted { EmitsToReport (line_emissions (trace_lines (named_of self.now).parts due.now entries.now))
+            (is_ok result) (sink_seen R.Sink report.old) (sink_seen R.Sink report.new) }
+        ensures fault { IfErr result (λ f. (f ≡ RunFault.Report) × Rose (R.faults report.old) (R.faults report.new)) }
     {
         let mut line = LineBuf::new();
         self.counters
             .trace_head(due.tick, due.owner, due.slot, &mut line);
         emit(&line, report)?;
+        self.write_entries(entries, &mut line, report)
+    }
+
+    /// Writes the lines of entries, each in a call of its own.
+    fn write_entries<R: Sink>(
+        &self,
+        entries: &[Entry],
+        line: &mut LineBuf,
+        report: &mut R,
+    ) -> Result<(), RunFault>
+        ensures emitted { EmitsToReport (line_emissions (map (λ e. entry_line (named_of self.now).parts e) entries.now))
+            (is_ok result) (sink_seen R.Sink report.old) (sink_seen R.Sink report.new) }
+        ensures fault { IfErr result (λ f. (f ≡ RunFault.Report) × Rose (R.faults report.old) (R.faults report.new)) }
+        ensures count { R.faults report.old ≤ R.faults report.new }
+    {
         for entry in entries.iter() {
             line.clear();
-            self.counters.trace_line(entry, &mut line);
-            emit(&line, report)?;
+            self.counters.trace_line(entry, line);
+            emit(line, report)?;
         }
         Ok(())
     }
 }
 
 /// Emits a line.
-fn emit<R: Sink>(line: &LineBuf, report: &mut R) -> Result<(), Failed>
-    ensures { Emits line.now (is_ok result)
+fn emit<R: Sink>(line: &LineBuf, report: &mut R) -> Result<(), RunFault>
+    ensures emitted { Emits line.now (is_ok result)
         (R.taken report.old) (R.taken report.new) (R.faults report.old) (R.faults report.new) }
+    ensures fault { IfErr result (λ f. (f ≡ RunFault.Report) × Rose (R.faults report.old) (R.faults report.new)) }
+    ensures count { R.faults report.old ≤ R.faults report.new }
 {
-    report.emit(line.bytes())
+    report.emit(line.bytes()).map_err(|_| RunFault::Report)
 }
 
 /// Hands the console a byte.
-fn emit_byte<C: Sink>(byte: u8, console: &mut C) -> Result<(), Failed>
-    ensures { Emits (byte ∷ []) (is_ok result)
+fn emit_byte<C: Sink>(byte: u8, console: &mut C) -> Result<(), RunFault>
+    ensures emitted { Emits (byte ∷ []) (is_ok result)
         (C.taken console.old) (C.taken console.new) (C.faults console.old) (C.faults console.new) }
+    ensures fault { IfErr result (λ f. (f ≡ RunFault.Console) × Rose (C.faults console.old) (C.faults console.new)) }
 {
-    console.emit(&[byte])
+    console.emit(&[byte]).map_err(|_| RunFault::Console)
 }
 
 /// Hands the console the byte that an event brought to it, if it did.
@@ -104,10 +122,7 @@ fn write_byte<C: Sink>(byte: Option<u8>, console: &mut C) -> Result<(), RunFault
     ensures fault { IfErr result (λ f. (f ≡ RunFault.Console) × Rose (C.faults console.old) (C.faults console.new)) }
 {
     match byte {
-        Some(byte) => match emit_byte(byte, console) {
-            Ok(()) => Ok(()),
-            Err(Failed) => Err(RunFault::Console),
-        },
+        Some(byte) => emit_byte(byte, console),
         None => Ok(()),
     }
 }

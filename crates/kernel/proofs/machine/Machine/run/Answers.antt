@@ -1,7 +1,7 @@
 use Rattle.std.proofs.Common.{arith, rules, refl, ap, sym, ◌∙◌, ◌-◌}
 use Rattle.gc_outside.proofs.InOrder.{not_ok}
-use Rattle.kernel.specs.Shown.{Named}
-use Rattle.kernel.proofs.Emitted.{begun_emissions, cut_run, emitted_more, ends_emissions, fault_later, noted_by, stops_in_event}
+use Rattle.kernel.specs.Shown.{Named, entries_of, sys_of}
+use Rattle.kernel.proofs.Emitted.{begun_emissions, cut_run, emitted_more, ends_emissions, fault_later, step_noted, stops_in_event}
 use Rattle.kernel.proofs.Runs.{begun_sys, reason_is, tells_end, ends_sys, ends_noted, run_to_replayed, run_more, retired_here, noted_more, none_before, events_running, goes_on, last_reason}
 use Rattle.kernel.proofs.machine.Machine.run.Goals as goal
 
@@ -62,21 +62,21 @@ returns-in_err-step-clause-stopped g c =
     let i = c.run.invariant in
     let n = retired_here _ _ c.run.events c.retired-start.result c.retired.result i.ran c.retired-start.ensures c.retired.ensures in
     let none = reason_is _ _ c.run.events i.ran c.args.g (c.retired.result - c.retired-start.result) _ n.1 c.in_default.ensures in
-    let some = (goes_on c.args.g c.run.events (c.retired.result - c.retired-start.result) _ (sym c.in_default.ensures)).some in
+    let some = (goes_on c.args.g c.run.events (c.retired.result - c.retired-start.result) (sys_of (λ b. (goal.SimObject-dyn g (b.vtable, b.value)).state b.value) c.run.self) (sym c.in_default.ensures)).some in
     let stops = stops_in_event _ _ _ _ c.run.events i.ran (ap (λ (k : Named). k.parts) i.named) _ _ _ _ i.emitted c.in_err-step.ensures.emitted c.args.g refl i.none none _ _ c.step.ensures.fired
-    (noted_by _ _ _ some c.step.ensures.entries) in
+    (step_noted (sys_of (λ b. (goal.SimObject-dyn g (b.vtable, b.value)).state b.value) c.run.self) (entries_of c.run.self) (entries_of c.step.new.self) some c.step.ensures.entries) in
     search (rules, stops)
 
 pub run-preserved : goal.run-preserved
 run-preserved g c =
     let i = c.run.invariant in
-    let some = (goes_on c.args.g c.run.events (c.retired.result - c.retired-start.result) _ (sym c.in_default.ensures)).some in
+    let some = (goes_on c.args.g c.run.events (c.retired.result - c.retired-start.result) (sys_of (λ b. (goal.SimObject-dyn g (b.vtable, b.value)).state b.value) c.run.self) (sym c.in_default.ensures)).some in
     let n = retired_here _ _ c.run.events c.retired-start.result c.retired.result i.ran c.retired-start.ensures c.retired.ensures in
     record {
       ran = run_more _ _ c.run.events i.ran _ c.step.ensures.fired;
       none = none_before c.args.g _ c.run.events i.none (reason_is _ _ c.run.events i.ran c.args.g (c.retired.result - c.retired-start.result) _ n.1 c.in_default.ensures);
       emitted = emitted_more _ _ _ _ c.run.events i.ran (ap (λ (k : Named). k.parts) i.named) _ _ _ _ i.emitted c.in_ok-step.ensures.emitted;
-      noted = noted_more _ _ c.run.events i.ran _ _ (noted_by _ _ _ some c.step.ensures.entries);
+      noted = noted_more _ _ c.run.events i.ran _ _ (step_noted (sys_of (λ b. (goal.SimObject-dyn g (b.vtable, b.value)).state b.value) c.run.self) (entries_of c.run.self) (entries_of c.step.new.self) some c.step.ensures.entries);
       named = c.step.ensures.named ∙ i.named;
       counted = omega (arith, i.counted, events_running _ _ i.machine.sound c.args.g c.run.events (c.retired.result - c.retired-start.result) c.in_default.ensures _ c.step.ensures.fired);
       machine = c.step.ensures.machine;

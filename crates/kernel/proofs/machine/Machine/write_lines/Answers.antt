@@ -1,28 +1,14 @@
-use Rattle.std.proofs.Common.{arith, refl, ◌+◌}
+use Rattle.gc_outside.specs.Sinks.{sink_seen}
 use Rattle.gc_outside.proofs.InOrder.{not_ok}
-use Rattle.gc_outside.proofs.Lines.{all_written, appended, line_cut, line_written, none_written}
-use Rattle.kernel.proofs.Emitted.{entry_next, no_entry_next}
+use Rattle.gc_outside.proofs.Lines.{appended, first_cut, first_then}
 use Rattle.kernel.proofs.machine.Machine.write_lines.Goals as goal
 
 pub returns-in_err-emit-clause-emitted : goal.returns-in_err-emit-clause-emitted
 returns-in_err-emit-clause-emitted g c =
     rw (not_ok c.from_residual.result c.from_residual.ensures.0)
-    (line_cut _ _ 0 _ _ refl (none_written _ _) _ _ (appended _ _ _ c.trace_head.ensures c.new-line.ensures) c.in_err-emit.ensures)
-
-pub loop-entry-init : goal.loop-entry-init
-loop-entry-init g c = line_written _ _ 0 _ _ refl (none_written _ _) _ _ (appended _ _ _ c.trace_head.ensures c.new-line.ensures) c.in_ok-emit.ensures
-
-pub loop-entry-preserved : goal.loop-entry-preserved
-loop-entry-preserved g c =
-    line_written _ _ (c.loop-entry.entry-index + 1) _ _ (entry_next _ _ c.args.entries.now c.loop-entry.entry-index _ _ c.loop-entry-test.true refl) c.loop-entry.invariant _ _
-    (appended _ _ _ c.trace_line.ensures c.clear.ensures) c.in_ok-emit-2.ensures
-
-pub returns-in_err-emit-2-clause-emitted : goal.returns-in_err-emit-2-clause-emitted
-returns-in_err-emit-2-clause-emitted g c =
-    rw (not_ok c.from_residual-in_err-emit-2.result c.from_residual-in_err-emit-2.ensures.0)
-    (line_cut _ _ (c.loop-entry.entry-index + 1) _ _ (entry_next _ _ c.args.entries.now c.loop-entry.entry-index _ _ c.loop-entry-test.true refl) c.loop-entry.invariant _ _
-    (appended _ _ _ c.trace_line.ensures c.clear.ensures) c.in_err-emit-2.ensures)
+    (first_cut _ _ _ (sink_seen g.R.Sink c.args.report.now) (sink_seen g.R.Sink c.emit.new.report) (appended _ _ _ c.trace_head.ensures c.new-line.ensures) c.in_err-emit.ensures.emitted)
 
 pub returns-clause-emitted : goal.returns-clause-emitted
 returns-clause-emitted g c =
-    all_written _ _ (c.loop-entry.entry-index + 1) _ (no_entry_next _ _ c.args.entries.now c.loop-entry.entry-index (omega (arith, c.loop-entry-test.false))) c.loop-entry.invariant
+    first_then _ _ _ _ (sink_seen g.R.Sink c.args.report.now) (sink_seen g.R.Sink c.emit.new.report) (sink_seen g.R.Sink c.write_entries.new.report)
+    (appended _ _ _ c.trace_head.ensures c.new-line.ensures) c.in_ok-emit.ensures.emitted c.write_entries.ensures.emitted

@@ -1,0 +1,7 @@
+use Rattle.std.proofs.Common.{sym, subst, Bool, List}
+use Rattle.gc_outside.specs.Emissions.{EmitsToReport}
+use Rattle.gm_words.specs.declared.entry.Entry.{Entry}
+use Rattle.kernel.proofs.machine.Machine.write_trace.Goals as goal
+
+pub returns-then-self-clause-emitted : goal.returns-then-self-clause-emitted
+returns-then-self-clause-emitted g c = rw (c.if-self.true, sym c.entries.ensures) c.write_lines.ensures.emitted
