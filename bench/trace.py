@@ -9,19 +9,11 @@ report goes to a file.
 """
 import argparse
 import os
-import resource
 import subprocess
 import sys
 import tempfile
 
-BENCH = os.path.dirname(os.path.abspath(__file__))
-TOP = os.path.dirname(BENCH)
-PROGRAM = os.path.join(TOP, "crates", "gc_cli", "out", "gc_cli")
-
-
-def processor_seconds():
-    usage = resource.getrusage(resource.RUSAGE_CHILDREN)
-    return usage.ru_utime + usage.ru_stime
+from machine import BENCH, PROGRAM, TOP, processor_seconds
 
 
 def timed(command, report):
