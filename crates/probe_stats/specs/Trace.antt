@@ -1,5 +1,5 @@
 -- The trace: a line for each event, and one for each entry that it notes. This project's own rules.
-use Rattle.std.specs.Prelude.{ℕ, ◌<◌, ◌≤◌, ◌==◌, Bool, true, false, if◌then◌else◌, List, [], ◌∷◌, ◌++◌, length, take, slice_get, codes, decimal}
+use Rattle.std.specs.Prelude.{ℕ, ◌<◌, ◌≤◌, ◌==◌, Bool, if◌then◌else◌, List, [], ◌∷◌, ◌++◌, length, take, slice_get, codes, decimal}
 use Rattle.std.specs.Option.{option_map_or}
 use Rattle.gc_text.specs.Hexadecimal.{hex8, hex16, hex_of}
 use Rattle.gm_words.specs.Platform.{Part, fetch_source, data_source}

@@ -1,5 +1,5 @@
 // The statistics: the counters by name, as lines of text.
-ghost use Rattle.std.specs.Prelude.{◌≡◌, ◌↔◌, ◌+◌, ◌-◌, ◌*◌, ◌<◌, ◌≤◌, ◌++◌, List, ℕ, IsTrue, IfSome, length, map, option_map, slice_get};
+ghost use Rattle.std.specs.Prelude.{◌≡◌, ◌↔◌, ◌+◌, ◌-◌, ◌*◌, ◌<◌, ◌≤◌, ◌++◌, IsTrue, IfSome, length, map, option_map, slice_get};
 ghost use Rattle.std.specs.Bool.{OnFalse};
 ghost use Rattle.gm_words.specs.Shown.{part_shown};
 ghost use Rattle.probe_stats.specs.Stats.{count_at, machine_pairs, pair, refused_by, cache_paths, caches_pairs, stats_line, stats_pairs};

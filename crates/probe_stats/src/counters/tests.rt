@@ -5,40 +5,29 @@ ghost use Rattle.cfg_tree.specs.Valid.{IsValidConfig};
 use super::Counters;
 use gc_base::{NoMemory, ObjId, PktId, SlotNo, Tick};
 use gc_text::LineBuf;
-use gm_words::{CacheConfig, Caches, Config, Entry};
+use gm_words::{Config, Entry};
 use std::alloc::Global;
 use std::test::Fail;
 
 /// A configuration with one cache.
+const CONFIGURATION: &[u8] = b"\
+    system = { line = 16, model = \"atomic\", ram = 65536, budget = 1000000 }\n\
+    cpu = { period = 1000 }\n\
+    corebus = { latency = 100 }\n\
+    membus = { latency = 100 }\n\
+    cache1 = { sets = 1, ways = 1, mshrs = 1, targets = 1, writeq = 1, latency = 10 }\n\
+    mem = { latency = 500, queue = 1 }\n\
+    uart = { latency = 200, chartime = 1000 }\n\
+    timer = { latency = 200, period = 100 }\n\
+    exit = { latency = 50 }\n";
+
 fn configuration(alloc: Global) -> Result<Config, NoMemory>
     ensures { IfOk result (λ c. IsValidConfig c) }
 {
-    let cache = CacheConfig {
-        sets: 1,
-        ways: 1,
-        mshrs: 1,
-        targets: 1,
-        writeq: 1,
-        latency: 10,
-    };
-    Ok(Config {
-        system_model: false,
-        system_line: 16,
-        system_ram: 65_536,
-        system_budget: 1_000_000,
-        cpu_period: 1_000,
-        corebus_latency: 100,
-        caches: Caches::new(vec![in alloc; cache; 1]?),
-        membus_latency: 100,
-        mem_latency: 500,
-        mem_queue: 1,
-        uart_latency: 200,
-        uart_chartime: 1_000,
-        timer_latency: 200,
-        timer_period: 100,
-        exit_latency: 50,
-        dma: None,
-    })
+    match cfg_tree::read(alloc, CONFIGURATION) {
+        Ok(c) => Ok(c),
+        Err(_) => Err(NoMemory),
+    }
 }
 
 /// An access of the hart, by whether it writes, whether it is of a device, and whether it is refused.
@@ -142,7 +131,7 @@ fn each_entry_raises_its_own_counter(rt: HostRuntime) -> Result<(), Fail> {
 fn part(counters: &Counters, path: &str) -> ObjId {
     for (place, part) in counters.parts.iter().enumerate() {
         if part.path == path {
-            return ObjId(place as u8);
+            return ObjId(u8::try_from(place).unwrap_or(255));
         }
     }
     ObjId(255)
