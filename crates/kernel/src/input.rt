@@ -1,5 +1,5 @@
 // Input for the guest.
-ghost use Rattle.std.specs.Prelude.{◌≡◌};
+ghost use Rattle.std.specs.Prelude.{◌≡◌, if◌then◌else◌};
 ghost use Rattle.kernel.specs.Input.{fed, one_takes, input_given, input_taken};
 ghost use Rattle.kernel.specs.Shown.{sys_of, entries_of, named_of, IsMachine};
 
@@ -18,7 +18,7 @@ impl Machine {
     {
         let mut taken = 0;
         for byte in bytes.iter() {
-            taken += u32::from(self.feed(*byte));
+            taken += one_if(self.feed(*byte));
         }
         taken
     }
@@ -38,4 +38,11 @@ impl Machine {
         }
         taken
     }
+}
+
+/// 1 for a byte that was taken, and else 0.
+fn one_if(taken: bool) -> u32
+    ensures { result ≡ (if taken then 1 else 0) }
+{
+    if taken { 1 } else { 0 }
 }

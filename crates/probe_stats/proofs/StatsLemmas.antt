@@ -1,17 +1,17 @@
 -- The pairs of the statistics: which stands where, their names, and the JSON object of them.
-use Rattle.std.proofs.Common.{◌≡◌, ℕ, zero, suc, ◌+◌, ◌-◌, ◌*◌, ◌<◌, ◌≤◌, ◌&&◌, nat_le, Bool, true, false, List, [], ◌∷◌, ◌++◌, length, map, min, take, drop, get_or, slice_get, All, add-one, Option, Some, None, option_map, Ordering, Less, Equal, Greater, refl, sym, ap, ◌∙◌, arith}
+use Rattle.std.proofs.Common.{◌≡◌, ℕ, zero, suc, ◌+◌, ◌-◌, ◌*◌, ◌<◌, ◌≤◌, ◌&&◌, nat_le, Bool, true, false, List, [], ◌∷◌, ◌++◌, length, map, min, take, drop, get_or, slice_get, All, add-one, Some, Ordering, Less, Equal, Greater, refl, ap, arith}
 use Rattle.std.proofs.lemmas.Bool.{and_parts, leb-true}
 use Rattle.std.proofs.lemmas.List.Elements.{All-head, All-tail}
 use Rattle.std.proofs.lemmas.Option.{slice_get_past}
 use Rattle.std.specs.Cmp.Lexicographic.{slice_cmp}
-use Rattle.std.specs.Ordering.{match_ordering, nat_cmp}
-use Rattle.serde_json.specs.Data.{Data, number, unsigned, Members, member, put}
+use Rattle.std.specs.Ordering.{nat_cmp}
+use Rattle.serde_json.specs.Data.{number, unsigned, member, put}
 use Rattle.serde_json.specs.Written.{members_have_float}
 use Rattle.gm_words.specs.Platform.{Part}
 use Rattle.gm_words.specs.Shown.{part_shown}
 use Rattle.gm_words.specs.declared.platform.Part.{Part as KeptPart}
 use Rattle.probe_stats.specs.Counted.{Counted, HasShortPath}
-use Rattle.probe_stats.specs.Stats.{Pair, cache_pairs, cache_paths, caches_pairs, count_at, machine_pairs, members_of, stats_pairs}
+use Rattle.probe_stats.specs.Stats.{Pair, cache_paths, caches_pairs, count_at, machine_pairs, members_of, stats_pairs}
 use Rattle.probe_stats.specs.Trace.{path_at}
 
 -- ---- the count of a path

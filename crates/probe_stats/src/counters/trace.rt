@@ -1,8 +1,6 @@
 // The trace: the lines of events and of the entries that they note.
-ghost use Rattle.std.specs.Prelude.{◌≡◌, ◌+◌, ◌<◌, ◌≤◌, ◌++◌, codes, decimal, length, take};
-ghost use Rattle.gc_text.specs.Hexadecimal.{hex8, hex16, hex_of};
-ghost use Rattle.gm_words.specs.Shown.{part_shown};
-ghost use Rattle.probe_stats.specs.Trace.{answer_words, entry_line, entry_words, event_head, level_word, path_at, request_words, source_letter};
+ghost use Rattle.std.specs.Prelude.{◌≡◌, ◌+◌, ◌≤◌, ◌++◌, length, take};
+ghost use Rattle.probe_stats.specs.Trace.{answer_words, entry_line, entry_words, event_head, path_at, request_words, source_letter};
 
 use super::Counters;
 use gc_base::{ObjId, PktId, SlotNo, Tick};

@@ -14,14 +14,14 @@ loop-byte-init g c = record {
 pub overflow_add-taken : goal.overflow_add-taken
 overflow_add-taken g c =
     let i = c.loop-byte.invariant in
-    omega (arith, taken_few c.args.bytes.now _ _ c.requires.machine.sound, taken_more c.args.bytes.now c.loop-byte.byte-index _ _ c.loop-byte-test.true refl _ _ c.feed.ensures.fed _ c.feed.ensures.taken _ _ i.taken _ c.from.ensures)
+    omega (arith, taken_few c.args.bytes.now _ _ c.requires.machine.sound, taken_more c.args.bytes.now c.loop-byte.byte-index _ _ c.loop-byte-test.true refl _ _ c.feed.ensures.fed _ c.feed.ensures.taken _ _ i.taken _ c.one_if-taken.ensures)
 
 pub loop-byte-preserved : goal.loop-byte-preserved
 loop-byte-preserved g c =
     let i = c.loop-byte.invariant in
     record {
       given = given_more c.args.bytes.now c.loop-byte.byte-index _ _ c.loop-byte-test.true refl _ _ c.feed.ensures.fed _ i.given;
-      taken = taken_more c.args.bytes.now c.loop-byte.byte-index _ _ c.loop-byte-test.true refl _ _ c.feed.ensures.fed _ c.feed.ensures.taken _ _ i.taken _ c.from.ensures;
+      taken = taken_more c.args.bytes.now c.loop-byte.byte-index _ _ c.loop-byte-test.true refl _ _ c.feed.ensures.fed _ c.feed.ensures.taken _ _ i.taken _ c.one_if-taken.ensures;
       entries = c.feed.ensures.entries ∙ i.entries;
       named = c.feed.ensures.named ∙ i.named;
       machine = record { sound = fed_machine _ _ _ _ _ i.machine.sound c.feed.ensures.fed c.feed.ensures.table };
