@@ -19,7 +19,7 @@ report_bytes-append [] b = refl
 report_bytes-append (ToConsole bytes ∷ a) b = report_bytes-append a b
 report_bytes-append (ToReport bytes ∷ a) b = ap (λ (l : List ℕ). bytes ++ l) (report_bytes-append a b) ∙ sym (append_assoc bytes (report_bytes a) (report_bytes b))
 
-takes_nothing : (s : Sinks) → TakesAll [] s s
+pub takes_nothing : (s : Sinks) → TakesAll [] s s
 takes_nothing s = record { console = told_appends_nothing s.console.taken; report = told_appends_nothing s.report.taken }
 
 takes_then : (a b : List Emission) (old mid new : Sinks) → TakesAll a old mid → TakesAll b mid new → TakesAll (a ++ b) old new

@@ -10,7 +10,7 @@ returns-in-Ok-clause-emitted g c =
     ran_emits c.args.config.now _ _ _ _ _ _ (sinks g.C.Sink g.R.Sink c.run.new.console c.run.new.report) (sink_seen g.R.Sink c.say.new.sink)
     (ap (λ (k : Named). k.parts) c.requires.named)
     (c.bytes.ensures.value ∙ (c.run_line.ensures ∙ run_text c.in-Ok.end _ _ e.ended (c.now.ensures ∙ ap (λ s. s.tick) e.ran)))
-    c.run.ensures.emitted c.say.ensures
+    c.in-Ok.ensures.emitted c.say.ensures
 
 pub returns-in-Ok-clause-counted : goal.returns-in-Ok-clause-counted
 returns-in-Ok-clause-counted g c =
@@ -20,4 +20,4 @@ returns-in-Ok-clause-counted g c =
 
 pub returns-in-Err-clause-emitted : goal.returns-in-Err-clause-emitted
 returns-in-Err-clause-emitted g c =
-    cut_emits c.args.config.now _ _ _ _ (sinks g.C.Sink g.R.Sink c.run.new.console c.run.new.report) (ap (λ (k : Named). k.parts) c.requires.named) c.run.ensures.emitted
+    cut_emits c.args.config.now _ _ _ _ (sinks g.C.Sink g.R.Sink c.run.new.console c.run.new.report) (ap (λ (k : Named). k.parts) c.requires.named) c.in-Err.ensures.emitted

@@ -5,8 +5,8 @@ use Rattle.probe_stats.specs.Stats.{stats_pairs}
 use Rattle.session.proofs.StatLemmas.{line_told, no_line_told, pairs_few}
 use Rattle.session.proofs.script.stats.Goals as goal
 
-pub loop-counters-init : goal.loop-counters-init
-loop-counters-init g c = record {
+pub loop-now-init : goal.loop-now-init
+loop-now-init g c = record {
   within = omega arith;
   empty = c.new-line.ensures;
   written = none_written _ _;
@@ -14,22 +14,22 @@ loop-counters-init g c = record {
 
 pub overflow_add-n : goal.overflow_add-n
 overflow_add-n g c =
-    let l : c.loop-counters.n < length (stats_pairs c.args.counters.now c.args.now) = c.text_line.ensures.more.0 c.loop-counters-test.true in
+    let l : c.loop-now.n < length (stats_pairs c.args.counters.now c.args.now) = c.text_line.ensures.more.0 c.loop-now-test.true in
     omega (arith, l, pairs_few c.args.counters.now c.args.now)
 
-pub loop-counters-preserved : goal.loop-counters-preserved
-loop-counters-preserved g c =
-    let i = c.loop-counters.invariant in
-    let l : c.loop-counters.n < length (stats_pairs c.args.counters.now c.args.now) = c.text_line.ensures.more.0 c.loop-counters-test.true in
+pub loop-now-preserved : goal.loop-now-preserved
+loop-now-preserved g c =
+    let i = c.loop-now.invariant in
+    let l : c.loop-now.n < length (stats_pairs c.args.counters.now c.args.now) = c.text_line.ensures.more.0 c.loop-now-test.true in
     record {
       within = omega (arith, l);
       empty = c.clear.ensures;
-      written = line_written _ _ c.loop-counters.n _ _ (line_told _ c.loop-counters.n _ _ l i.empty c.text_line.ensures.value) i.written _ _ c.bytes.ensures.value c.in_ok-say.ensures;
+      written = line_written _ _ c.loop-now.n _ _ (line_told _ c.loop-now.n _ _ l i.empty c.text_line.ensures.value) i.written _ _ c.bytes.ensures.value c.in_ok-say.ensures;
     }
 
 pub returns-in_err-say : goal.returns-in_err-say
 returns-in_err-say g c =
-    let i = c.loop-counters.invariant in
-    let l : c.loop-counters.n < length (stats_pairs c.args.counters.now c.args.now) = c.text_line.ensures.more.0 c.loop-counters-test.true in
+    let i = c.loop-now.invariant in
+    let l : c.loop-now.n < length (stats_pairs c.args.counters.now c.args.now) = c.text_line.ensures.more.0 c.loop-now-test.true in
     rw (not_ok c.from_residual.result c.from_residual.ensures.0)
-    (line_cut _ _ c.loop-counters.n _ _ (line_told _ c.loop-counters.n _ _ l i.empty c.text_line.ensures.value) i.written _ _ c.bytes.ensures.value c.in_err-say.ensures)
+    (line_cut _ _ c.loop-now.n _ _ (line_told _ c.loop-now.n _ _ l i.empty c.text_line.ensures.value) i.written _ _ c.bytes.ensures.value c.in_err-say.ensures)
