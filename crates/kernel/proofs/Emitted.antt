@@ -10,8 +10,8 @@ use Rattle.gc_outside.specs.Emits.{Emits}
 use Rattle.gc_outside.specs.Sinks.{SinkSeen, Sinks}
 use Rattle.gc_outside.proofs.InOrder.{order_console, order_nothing, order_then, order_cut}
 use Rattle.gc_outside.proofs.Outputs.{rose_later}
-use Rattle.gm_model.specs.Fire.{Ran, fire_first, timed_run}
-use Rattle.gm_model.specs.Run.{RunEnd, run_to, reason_at}
+use Rattle.gm_model.specs.Fire.{fire_first, timed_run}
+use Rattle.gm_model.specs.Run.{run_to, reason_at}
 use Rattle.gm_model.specs.Sys.{Sys}
 use Rattle.gm_words.specs.Platform.{Part}
 use Rattle.gm_words.specs.declared.entry.Entry.{Entry}

@@ -117,8 +117,8 @@ pub peer_past : (xs : List KeptPart) (k p : ℕ) → length xs ≤ k → record 
 peer_past xs k p l = ap (λ ys. slice_index_or ys p (record { part = k; port = p })) (sym (wires_past (map part_shown xs) k (rw length-map l)))
 
 -- the machine of these rows, before anything was counted or noted
-pub stands : (c : Config) (pending : List Due) (objects : List ObjState) (rows : List Part) (tick next n : ℕ) (k : Counted) (r : Router)
-    → tick ≡ k.since → k ≡ begun_at n 0 → next ≡ 0 → n ≡ length (platform c) → rows ≡ platform c → r ≡ router_of c
+pub stands : (c : Config) (pending : List Due) (objects : List ObjState) (rows : List Part) (tick next : ℕ) (k : Counted) (r : Router)
+    → tick ≡ k.since → k ≡ begun_at c 0 → next ≡ 0 → rows ≡ platform c → r ≡ router_of c
     → ◌≡◌ {A = Sys} (record {
       tick = tick;
       pending = pending;
@@ -131,4 +131,4 @@ pub stands : (c : Config) (pending : List Due) (objects : List ObjState) (rows :
       wires = wires_of rows;
       router = r;
     }) (standing c pending objects)
-stands c pending objects rows tick next n k r now counted none many platform_is route = rw now (rw counted (rw none (rw many (rw platform_is (rw route refl)))))
+stands c pending objects rows tick next k r now counted none platform_is route = rw now (rw counted (rw none (rw platform_is (rw route refl))))

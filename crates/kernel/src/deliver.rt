@@ -75,6 +75,7 @@ impl Machine {
         requires { IsUnderWay (delivery_of state self.old) self.old.queue.table }
         ensures delivered { Delivers 1 (delivery_of state self.old) (delivery_of state self.new) }
         ensures table { self.new.queue.table ≡ self.old.queue.table }
+        ensures counters { self.new.counters ≡ self.old.counters }
     {
         match self.out.first() {
             Some(
@@ -97,6 +98,7 @@ impl Machine {
         requires { IsUnderWay (delivery_of state self.old) self.old.queue.table }
         ensures delivered { Delivers 1 (delivery_of state self.old) (delivery_of state self.new) }
         ensures table { self.new.queue.table ≡ self.old.queue.table }
+        ensures counters { self.new.counters ≡ self.old.counters }
     {
         match self.out.first() {
             None => {}
@@ -165,6 +167,7 @@ impl Machine {
         requires first { IsPassedFirst self.old.out.items sender.0 packet }
         ensures delivered { Delivers 1 (delivery_of state self.old) (delivery_of state self.new) }
         ensures table { self.new.queue.table ≡ self.old.queue.table }
+        ensures counters { self.new.counters ≡ self.old.counters }
     {
         self.out.drop_first();
         let latency = self.pass(&mut packet);

@@ -1,4 +1,4 @@
-use Rattle.std.proofs.Common.{arith, refl, sym, ap, map, ◌∙◌}
+use Rattle.std.proofs.Common.{arith, refl, ap, map}
 use Rattle.std.proofs.lemmas.List.{length-map}
 use Rattle.gm_words.specs.Platform.{wires_of}
 use Rattle.gm_words.specs.Shown.{part_shown}

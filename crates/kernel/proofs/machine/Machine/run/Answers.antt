@@ -1,7 +1,7 @@
 use Rattle.std.proofs.Common.{arith, rules, refl, ap, sym, ◌∙◌, ◌-◌}
 use Rattle.gc_outside.proofs.InOrder.{not_ok}
 use Rattle.kernel.specs.Shown.{Named, entries_of, sys_of}
-use Rattle.kernel.proofs.Emitted.{begun_emissions, cut_run, emitted_more, ends_emissions, fault_later, step_noted, stops_in_event}
+use Rattle.kernel.proofs.Emitted.{begun_emissions, cut_run, emitted_more, ends_emissions, step_noted, stops_in_event}
 use Rattle.kernel.proofs.Runs.{begun_sys, reason_is, tells_end, ends_sys, ends_noted, run_to_replayed, run_more, retired_here, noted_more, none_before, events_running, goes_on, last_reason}
 use Rattle.kernel.proofs.machine.Machine.run.Goals as goal
 

@@ -1,6 +1,4 @@
-use Rattle.std.proofs.Common.{sym, subst, Bool, List}
-use Rattle.gc_outside.specs.Emissions.{EmitsToReport}
-use Rattle.gm_words.specs.declared.entry.Entry.{Entry}
+use Rattle.std.proofs.Common.{sym}
 use Rattle.kernel.proofs.machine.Machine.write_trace.Goals as goal
 
 pub returns-then-self-clause-emitted : goal.returns-then-self-clause-emitted
