@@ -16,14 +16,14 @@ stop-requires-clause-named g c = c.loop-next.invariant.named ∙ c.requires.name
 
 pub stop-requires-clause-events : goal.stop-requires-clause-events
 stop-requires-clause-events g c =
-    omega (arith, c.loop-next.invariant.events, c.requires.events, c.requires.few, c.requires.valid.system_budget.1, c.loop-next-test.true)
+    omega (arith, c.loop-next.invariant.events, c.requires.events, c.requires.few, c.requires.valid.budget.1, c.loop-next-test.true)
 
 pub loop-next-preserved : goal.loop-next-preserved
 loop-next-preserved g c = record {
   done = done_more _ _ _ _ _ _ _ _ _ c.loop-next-test.true refl c.loop-next.invariant.done _ _ c.in_ok-stop.ensures.sys c.in_ok-stop.ensures.emitted;
   machine = c.in_ok-stop.ensures.machine;
   named = c.stop.ensures.named ∙ c.loop-next.invariant.named;
-  events = omega (arith, c.loop-next.invariant.events, c.in_ok-stop.ensures.counted, c.requires.valid.system_budget.1);
+  events = omega (arith, c.loop-next.invariant.events, c.in_ok-stop.ensures.counted, c.requires.valid.budget.1);
 }
 
 pub returns-in_err-stop : goal.returns-in_err-stop
