@@ -183,6 +183,12 @@ module _ {F : Type 0} (r : Result (Unit {0}) Status) (done : Result (Unit {0}) F
     by (Ok u) (Err f) m k = cc
     by (Err s) e m k = tt
 
+  pub or_true : (A : Type 0) → A → OnOk r A
+  or_true A a = by r where
+    by : (q : Result (Unit {0}) Status) → OnOk q A
+    by (Ok u) = a
+    by (Err s) = tt
+
   pub or_emitted : (es : List Emission) (old new : Sinks) → EmitsInOrder es (is_ok done) old new → OnOk r (EmitsInOrder es true old new)
   or_emitted es old new h = by r same where
     by : (q : Result (Unit {0}) Status) → is_ok q ≡ is_ok done → OnOk q (EmitsInOrder es true old new)

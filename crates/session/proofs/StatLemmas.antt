@@ -40,6 +40,12 @@ line_told pairs n old new l e h =
     let P : List ℕ → Type 0 = λ o. IfSome (slice_get pairs n) (λ p. new ≡ o ++ stats_line p) in
     rw add-one (told_from pairs n new l (subst P e h))
 
+-- what doesn't stand before the end stands at it or behind
+pub not_before : (n m : ℕ) → (n < m → ⊥) → m ≤ n
+not_before n zero f = omega arith
+not_before zero (suc m) f = absurd (f (omega arith))
+not_before (suc n) (suc m) f = omega (arith, not_before n m (λ l. f (omega (arith, l))))
+
 pub no_line_told : (pairs : List Pair) (n : ℕ) → length pairs ≤ n → drop n (map (λ p. stats_line p) pairs) ≡ []
 no_line_told pairs n l = drop_of_length-le (map (λ p. stats_line p) pairs) (rw length-map l)
 

@@ -16,20 +16,20 @@ stop-requires-clause-named g c = c.loop-next.invariant.named ∙ c.requires.name
 
 pub stop-requires-clause-events : goal.stop-requires-clause-events
 stop-requires-clause-events g c =
-    omega (arith, c.loop-next.invariant.events, c.requires.events, c.requires.few, c.requires.valid.system_budget.1, c.loop-next-test.true)
+    omega (arith, c.loop-next.invariant.events, c.requires.events, c.requires.few, c.requires.valid.budget.1, c.loop-next-test.true)
 
 pub loop-next-preserved : goal.loop-next-preserved
 loop-next-preserved g c = record {
-  done = done_more _ _ _ _ _ _ _ _ _ c.loop-next-test.true refl c.loop-next.invariant.done _ _ c.in_ok-stop.ensures.sys c.in_ok-stop.ensures.emitted;
+  done = done_more _ _ _ _ _ _ c.next-item.result _ _ c.loop-next-test.true c.next-item.is c.loop-next.invariant.done _ _ c.in_ok-stop.ensures.sys c.in_ok-stop.ensures.emitted;
   machine = c.in_ok-stop.ensures.machine;
   named = c.stop.ensures.named ∙ c.loop-next.invariant.named;
-  events = omega (arith, c.loop-next.invariant.events, c.in_ok-stop.ensures.counted, c.requires.valid.system_budget.1);
+  events = omega (arith, c.loop-next.invariant.events, c.in_ok-stop.ensures.counted, c.requires.valid.budget.1);
 }
 
 pub returns-in_err-stop : goal.returns-in_err-stop
 returns-in_err-stop g c =
     let p = err_from_is_err_and c.from_residual.result c.from_residual.ensures.1 in
-    rw (p.1, p.2) (done_fails _ _ _ _ _ _ _ _ _ c.loop-next-test.true refl c.loop-next.invariant.done _ _ c.in_err-stop.ensures.fails)
+    rw (p.1, p.2) (done_fails _ _ _ _ _ _ c.next-item.result _ _ c.loop-next-test.true c.next-item.is c.loop-next.invariant.done _ _ c.in_err-stop.ensures.fails)
 
 pub returns : goal.returns
 returns g c = done_all _ _ _ _ _ _ _ (omega (arith, c.loop-next-test.false)) c.loop-next.invariant.done
