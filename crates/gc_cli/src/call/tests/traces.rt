@@ -26,13 +26,10 @@ const TIMER_AND_BYTE: File = (
     ]),
 );
 
-/// A line of 64 bytes of input.
-macro_rules! input_of_64 {
-    () => {
-        concat!(
-            "input 000102030405060708090a0b0c0d0e0f101112131415161718191a1b1c1d1e1f",
-            "202122232425262728292a2b2c2d2e2f303132333435363738393A3B3C3D3E3F\n"
-        )
+/// Five times a line.
+macro_rules! five_times {
+    ($line:literal) => {
+        concat!($line, $line, $line, $line, $line)
     };
 }
 
@@ -92,12 +89,9 @@ pc 000000008000000c\nx5 0000000000000021\nx6 0000000000000041\nx10 0000000010000
             IMAGE,
             (
                 "script",
-                Text(concat!(
-                    input_of_64!(),
-                    input_of_64!(),
-                    input_of_64!(),
-                    input_of_64!(),
-                    input_of_64!()
+                Text(five_times!(
+                    "input 000102030405060708090a0b0c0d0e0f101112131415161718191a1b1c1d1e1f\
+202122232425262728292a2b2c2d2e2f303132333435363738393A3B3C3D3E3F\n"
                 )),
             ),
         ],
@@ -109,14 +103,14 @@ pc 000000008000000c\nx5 0000000000000021\nx6 0000000000000041\nx10 0000000010000
         files: &[
             CONFIG,
             TIMER_AND_BYTE,
-            ("script", Text("run insts 5\ntrace on\nrun tick 9200\n")),
+            ("script", Text("run insts 5\ntrace on\nrun tick 10300\n")),
         ],
         console: b"\x5c",
         report: "run insts at 8200 insts 5 events 5\n\
-@9000 acpu 0\nserved i 7 r 0000000080000014 4 ram 6f000000\nretired 0000000080000014 0000006f\n\
 @9200 timer 1\nline 7 1\n\
 @9200 uart 1\n\
-run tick at 9200 insts 1 events 3\n",
+@10300 acpu 0\nserved i 7 r 0000000080000014 4 ram 6f000000\nretired 0000000080000014 0000006f\n\
+run tick at 10300 insts 1 events 3\n",
         ..SILENT
     },
     Case {

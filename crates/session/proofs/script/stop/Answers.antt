@@ -54,5 +54,5 @@ returns-in-Input-clause-fails g c = rw c.in-Input.is (or_fails _ _ c.or_sink-in-
 pub returns-in-Input-clause-counted : goal.returns-in-Input-clause-counted
 returns-in-Input-clause-counted g c =
     let few : c.input-taken.new.self.counters.counts.events ≤ c.args.machine.now.counters.counts.events + c.args.config.now.system_budget =
-        omega (arith, ap (λ t. t.counts.events) c.input-taken.ensures.given, ap (λ k. k.events) (input_counts c.items.result.now (sys_seen c.args.machine.now (λ p. (goal.SimObject-dyn g p).state p.1)))) in
+    omega (arith, ap (λ t. t.counts.events) c.input-taken.ensures.given, ap (λ k. k.events) (input_counts c.items.result.now (sys_seen c.args.machine.now (λ p. (goal.SimObject-dyn g p).state p.1)))) in
     or_true _ _ c.or_sink-in-Input.ensures.same _ few
