@@ -1,11 +1,14 @@
 // What an instruction does in turn: its requests, and what their responses lead to.
-ghost use Rattle.std.specs.Prelude.{◌≡◌, ◌^◌, ◌≤◌, IsTrue, None};
+ghost use Rattle.std.specs.Prelude.{◌≡◌, ◌+◌, ◌^◌, ◌≤◌, [], ◌∷◌, IsTrue, None};
 ghost use Rattle.ev_queue.specs.SlotTable.{gave};
 ghost use Rattle.rv_step.specs.Demand.{need as need_of};
 ghost use Rattle.rv_step.specs.Trap.{interrupt_cause};
+ghost use Rattle.rv_step.specs.Width.{IsSize};
 ghost use Rattle.gm_model.specs.AtomicCpu.{cpu_begins, cpu_fetched, cpu_accessed};
-ghost use Rattle.gm_words.specs.Platform.{is_in_ram};
-ghost use Rattle.obj_core.specs.Out.{HasRoom};
+ghost use Rattle.gm_model.specs.Accesses.{store_request};
+ghost use Rattle.gm_words.specs.Platform.{data_port, is_in_ram};
+ghost use Rattle.gm_words.specs.declared.act.Act.TheVariants.{Atomic};
+ghost use Rattle.obj_core.specs.Out.{HasRoom, extended};
 ghost use Rattle.obj_core.specs.Step.{Takes};
 
 use crate::sequencer::Sequencer;
@@ -96,14 +99,25 @@ impl Sequencer {
             }
             Demand::Store { addr, size, value } => {
                 self.stage = Stage::AwaitData { word, latency };
-                let id = out.fresh();
-                out.push(Act::Atomic {
-                    port: DATA_PORT,
-                    pkt: packets::store(id, self.ram, addr, size, value),
-                });
+                self.asks_store(addr, size, value, out);
             }
             Demand::Trap { cause, tval } => self.traps(a, at, cause, tval, q, out),
         }
+    }
+
+    /// Asks for the data access of a store of v. It is kept apart, so that no other instruction clears the packet that it fills.
+    #[inline(never)]
+    fn asks_store(&self, addr: u64, size: u8, v: u64, out: &mut Outbox)
+        requires size { IsSize size }
+        requires room { HasRoom out.old }
+        ensures { out.new ≡ extended out.old
+            (Atomic (record { 0 = data_port }) (store_request self.now.ram out.old.next addr size v) ∷ []) [] (out.old.next + 1) }
+    {
+        let id = out.fresh();
+        out.push(Act::Atomic {
+            port: DATA_PORT,
+            pkt: packets::store(id, self.ram, addr, size, v),
+        });
     }
 
     /// The data access of the word was served: it retires, or traps where the access was refused.

@@ -3,3 +3,5 @@ pub mod Arena
 pub mod Files
 pub mod Sure
 pub mod Emissions
+pub mod InOrder
+pub mod Lines

@@ -13,3 +13,5 @@ pub mod MemStore
 pub mod SureStore
 pub mod Arena
 pub mod Emits
+pub mod Sinks
+pub mod Emissions

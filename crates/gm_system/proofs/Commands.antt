@@ -237,6 +237,30 @@ module _ (s : Sys) (table : List Slot) (b : ℕ) (h : IsSteady s table) where
   input_packets g =
       alike_packets h.ram s (record s { objects = map (with_input b) s.objects }) h.sound input_alike h.sound.program.memory (input_memory h.sound.program.store ∙ h.sound.program.kept) h.sound.program.size (λ k n. input_memory k ∙ h.sound.program.one_store k n) g
 
+-- events are traced, or not
+module _ (s : Sys) (table : List Slot) (on : Bool) (h : IsSteady s table) where
+  trace_alike : IsAlike h.ram s (record s { trace = on })
+  trace_alike = record {
+    wiring = record { wires = refl; router = refl };
+    count = refl;
+    parts = λ k. record { face = refl; ok = λ o. o; within = λ w. w; object = refl; slots = refl };
+    due = h.sound.net.due;
+    order = h.parts.order;
+    once = h.parts.once;
+    next = refl;
+    counts = refl;
+    numbers = refl;
+  }
+
+  pub trace_steady : IsSteady (record s { trace = on }) table
+  trace_steady = record {
+    ram = h.ram;
+    sound = alike_sound h.ram s (record s { trace = on }) h.sound trace_alike h.sound.program.memory h.sound.program.kept h.sound.program.size h.sound.program.one_store;
+    parts = alike_parts h.ram s (record s { trace = on }) table trace_alike h.parts;
+    numbers = h.numbers;
+    counts = h.counts;
+  }
+
 -- bytes that are put into a list leave its length
 pub put_size : (m : List ℕ) (at : ℕ) (bytes : List ℕ) → at + length bytes ≤ length m → length (with_bytes_at m at bytes) ≡ length m
 put_size m at bytes l =

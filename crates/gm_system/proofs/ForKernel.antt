@@ -1,5 +1,5 @@
 -- What the machine's code needs of the theorems: the one module of this crate that proofs above it cite. No kind is named here.
-use Rattle.std.proofs.Common.{◌≡◌, ℕ, zero, suc, ◌+◌, ◌-◌, ◌*◌, ◌<◌, ◌≤◌, IsTrue, IfSome, List, [], ◌∷◌, ◌++◌, refl, sym, ◌∙◌, ap, subst, arith, Option, Some, None, ◌⊎◌, inl, inr, length, sum_by, slice_get, option_map}
+use Rattle.std.proofs.Common.{◌≡◌, ℕ, zero, suc, ◌+◌, ◌-◌, ◌*◌, ◌^◌, ◌<◌, ◌≤◌, IsTrue, Bool, true, false, is_some, IfSome, List, [], ◌∷◌, ◌++◌, refl, sym, ◌∙◌, ap, subst, arith, Option, Some, None, ◌⊎◌, inl, inr, length, get_or, sum_by, slice_get, option_map}
 use Rattle.std.proofs.lemmas.Bool.{cases_eq}
 use Rattle.std.proofs.lemmas.List.Sums.{sum_by-cons}
 use Rattle.gc_base.specs.declared.ids.PortNo.{PortNo}
@@ -25,7 +25,8 @@ use Rattle.gm_model.specs.Deliver.{Item, Sent, Done, Delivery, deliver_wake, del
 use Rattle.gm_model.specs.Fire.{taken_out, event_begun, fire, timed_run}
 use Rattle.gm_model.specs.ObjState.{ObjState, object_of, slots_of}
 use Rattle.gm_model.specs.Sys.{Sys, object_at, peer_in, step_at, pass_at, active_cpu}
-use Rattle.gm_model.specs.View.{Mind, mind_of, own_ram}
+use Rattle.gm_model.specs.Picks.{Input, picked}
+use Rattle.gm_model.specs.View.{Mind, mind_of, own_ram, parts_mind, program_state}
 use Rattle.gm_laws.proofs.Commands.{commands_hold}
 use Rattle.gm_laws.proofs.EachKind.{passes_hold, face_mind, hart_shown}
 use Rattle.gm_laws.proofs.Modest.{rules_are_modest}
@@ -35,8 +36,8 @@ use Rattle.gm_system.specs.Runs.{Replays, IsRunReplayed}
 use Rattle.gm_system.specs.System.{IsSound, IsWiredAlike, faces}
 use Rattle.gm_system.specs.Ways.{HasWay, GoesFrom}
 use Rattle.gm_system.proofs.Atomics.{stays_same, way_there}
-use Rattle.gm_system.proofs.Bounded.{wake_bounded, told_may, sender_there, offered_there, called_there, console-append}
-use Rattle.gm_system.proofs.Commands.{own_is, put_size as sized, put_steady, resumed_steady}
+use Rattle.gm_system.proofs.Bounded.{IsBounded, handle_bounded, wake_bounded, told_may, sender_there, offered_there, called_there, console-append}
+use Rattle.gm_system.proofs.Commands.{own_is, put_size as sized, put_steady, resumed_steady, input_steady, input_state, trace_steady}
 use Rattle.gm_system.proofs.EventEnds.{here}
 use Rattle.gm_system.proofs.Items.{active_below}
 use Rattle.gm_system.proofs.Machines.{begun_sound, first_sound, all_delivered, parts-taken_out, fire_sound, fire_bytes}
@@ -230,6 +231,22 @@ put_sound s table address bytes h l = record { steady = put_steady s table addre
 
 pub resumed_sound : (s : Sys) (table : List Slot) → IsMachineSound s table → IsMachineSound (resumed_state s) table
 resumed_sound s table h = record { steady = resumed_steady s table h.steady; tick = h.tick }
+
+-- a byte of input comes, and events are traced, or not: the program's state stays
+pub fed_sound : (s : Sys) (table : List Slot) (b : ℕ) → IsMachineSound s table → IsMachineSound (picked s (Input b)).sys table
+fed_sound s table b h = record { steady = input_steady s table b h.steady; tick = h.tick }
+
+pub fed_steady : (s : Sys) (table : List Slot) (b : ℕ) → IsSteady s table → IsSteady (picked s (Input b)).sys table
+fed_steady s table b h = input_steady s table b h
+
+pub fed_state : (s : Sys) (table : List Slot) (b : ℕ) → IsSteady s table → program_state (picked s (Input b)).sys [] ≡ program_state s []
+fed_state s table b h = input_state s table b h
+
+pub traced_steady : (s : Sys) (table : List Slot) (on : Bool) → IsSteady s table → IsSteady (record s { trace = on }) table
+traced_steady s table on h = trace_steady s table on h
+
+pub traced_sound : (s : Sys) (table : List Slot) (on : Bool) → IsMachineSound s table → IsMachineSound (record s { trace = on }) table
+traced_sound s table on h = record { steady = trace_steady s table on h.steady; tick = h.tick }
 
 -- What is shown.
 

@@ -12,8 +12,8 @@ fn put_front(to: &mut [u8], from: &[u8])
     ensures { to.new ≡ with_front to.old from.now }
 {
     match from.len() {
-        4 => to[..4].copy_from_slice(from),
-        8 => to[..8].copy_from_slice(from),
+        4 => to[..4].copy_from_slice(&from[..4]),
+        8 => to[..8].copy_from_slice(&from[..8]),
         n => to[..n].copy_from_slice(from),
     }
 }

@@ -97,6 +97,9 @@ module _ {X : Type 0} (f : X → ObjState) (c : ObjState → Commanded) (all : L
         drop_one (suc j) [] = refl
         drop_one (suc j) (o ∷ os) = drop_one j os
 
+  pub next_untouched : drop i all ≡ f b ∷ drop (i + 1) all
+  next_untouched = rw add-one rest_first
+
   module _ (e : f b' ≡ (c (f b)).state) where
     pub still_rest : drop (i + 1) (map f (set xs i b')) ≡ drop (i + 1) all
     still_rest =

@@ -80,6 +80,10 @@ first_delivered d e i is f g = record {
   delivered = g ∙ sym (ap (λ xs. deliver_first d xs) f);
 }
 
+-- with none left, nothing is delivered
+pub none_delivered : (d : Delivery) → d.items ≡ [] → Delivers 1 d d
+none_delivered d none = record { count = 1; enough = omega arith; delivered = sym (deliver_none 1 d none) }
+
 -- no item is an empty list
 pub none_of_length : (xs : List Item) → (length xs == 0) ≡ true → xs ≡ []
 none_of_length [] h = refl

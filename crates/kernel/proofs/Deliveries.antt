@@ -1,37 +1,50 @@
 -- What deliveries leave of a machine, whichever they are.
-use Rattle.std.proofs.Common.{◌≡◌, ℕ, suc, zero, ◌+◌, ◌≤◌, length, refl, sym, ◌∙◌, ap, subst, arith, List, [], ◌∷◌, ◌++◌, Option, Some, None}
+use Rattle.std.proofs.Common.{◌≡◌, ℕ, suc, zero, ◌+◌, ◌≤◌, length, refl, sym, ◌∙◌, ap, subst, arith, Bool, List, [], ◌∷◌, ◌++◌, Option, Some, None}
 use Rattle.std.proofs.lemmas.List.{length-append}
+use Rattle.gm_words.specs.Counts.{Counts}
 use Rattle.gm_words.specs.Routes.{destination}
 use Rattle.gm_words.specs.Platform.{End}
-use Rattle.gm_model.specs.Sys.{active_cpu, pass_at, peer_in, step_at}
+use Rattle.gm_model.specs.Sys.{Sys, active_cpu, pass_at, peer_in, step_at}
 use Rattle.gm_model.specs.Deliver.{Item, Sent, Done, Delivery, handle, deliver, deliver_first, deliver_wake, deliver_line, deliver_atomic, told_wake, sent_by, way_latency}
 use Rattle.gm_words.specs.Packet.{fault_response}
 use Rattle.gm_words.specs.declared.act.Act.TheVariants as acts
 use Rattle.gm_words.specs.declared.wake.Wake.{Wake}
 use Rattle.gm_words.specs.declared.wake.Wake.TheVariants as wakes
 
--- a delivery counts nothing
-counts_kept : (d : Delivery) (i : Item) → (handle d i).sys.counts ≡ d.sys.counts
-counts_kept d (Sent j (acts.Offer port p)) = refl
-counts_kept d (Sent j (acts.CallRetry port)) = refl
-counts_kept d (Sent j (acts.SetLine bit level)) = by_cpu (active_cpu d.sys.objects) where
-  by_cpu : (o : Option ℕ) → (deliver_line d (wakes.Line bit level) o).sys.counts ≡ d.sys.counts
+-- a delivery counts nothing, and leaves it whether events are traced
+abbrev still : Sys → Counts × Bool
+still s = (s.counts, s.trace)
+
+kept : (d : Delivery) (i : Item) → still (handle d i).sys ≡ still d.sys
+kept d (Sent j (acts.Offer port p)) = refl
+kept d (Sent j (acts.CallRetry port)) = refl
+kept d (Sent j (acts.SetLine bit level)) = by_cpu (active_cpu d.sys.objects) where
+  by_cpu : (o : Option ℕ) → still (deliver_line d (wakes.Line bit level) o).sys ≡ still d.sys
   by_cpu None = refl
   by_cpu (Some i) = refl
-counts_kept d (Sent j (acts.Atomic port p)) = by_route (destination d.sys.routes p.addr) where
-  by_route : (o : Option ℕ) → (deliver_atomic d j p o).sys.counts ≡ d.sys.counts
+kept d (Sent j (acts.Atomic port p)) = by_route (destination d.sys.routes p.addr) where
+  by_route : (o : Option ℕ) → still (deliver_atomic d j p o).sys ≡ still d.sys
   by_route None = refl
   by_route (Some i) = refl
-counts_kept d (Done j p latency) = refl
+kept d (Done j p latency) = refl
+
+first_kept : (d : Delivery) (is : List Item) → still (deliver_first d is).sys ≡ still d.sys
+first_kept d [] = refl
+first_kept d (i ∷ is) = kept (record d { items = is }) i
+
+deliver_kept : (n : ℕ) (d : Delivery) → still (deliver n d).sys ≡ still d.sys
+unfolding deliver
+deliver_kept zero d = refl
+deliver_kept (suc n) d = deliver_kept n (deliver_first d d.items) ∙ first_kept d d.items
 
 pub first_counts : (d : Delivery) (is : List Item) → (deliver_first d is).sys.counts ≡ d.sys.counts
-first_counts d [] = refl
-first_counts d (i ∷ is) = counts_kept (record d { items = is }) i
+first_counts d is = ap (λ (k : Counts × Bool). k.0) (first_kept d is)
 
 pub deliver_counts : (n : ℕ) (d : Delivery) → (deliver n d).sys.counts ≡ d.sys.counts
-unfolding deliver
-deliver_counts zero d = refl
-deliver_counts (suc n) d = deliver_counts n (deliver_first d d.items) ∙ first_counts d d.items
+deliver_counts n d = ap (λ (k : Counts × Bool). k.0) (deliver_kept n d)
+
+pub deliver_trace : (n : ℕ) (d : Delivery) → (deliver n d).sys.trace ≡ d.sys.trace
+deliver_trace n d = ap (λ (k : Counts × Bool). k.1) (deliver_kept n d)
 
 -- a delivery keeps the items that wait
 wake_least : (d : Delivery) (i : ℕ) (w : Wake) → length d.items ≤ length (deliver_wake d i w).items

@@ -1,5 +1,5 @@
 -- Counting the entries of an event, one by one.
-use Rattle.std.proofs.Common.{◌≡◌, ℕ, zero, suc, Bool, true, false, ◌+◌, ◌<◌, arith, add-one, subst, List, [], ◌∷◌, length, drop, get_or}
+use Rattle.std.proofs.Common.{◌≡◌, ℕ, zero, suc, Bool, true, false, ◌+◌, ◌<◌, arith, add-one, sym, ap, ◌∙◌, subst, List, [], ◌∷◌, length, drop, get_or}
 use Rattle.std.proofs.Math.Seq.{drop-cons}
 use Rattle.gm_words.specs.Counts.{Counts, AreUpTo, count_entry, count_entries, IsCountedUpTo}
 use Rattle.gm_words.specs.declared.entry.Entry.{Entry}
@@ -8,7 +8,7 @@ use Rattle.gm_words.specs.declared.entry.Entry.TheVariants as entries
 use Rattle.probe_stats.specs.Counted.{Counted, IsBelowAt, IsAccessBelow, IsRaisedBelow}
 
 module _ (es : List Entry) (i : ℕ) (x : Entry) (c d : Counted) (here : i < length es)
-    (noted : d ≡ record { counts = count_entry c.counts (get_or es i x); since = c.since }) where
+    (noted : d ≡ record c { counts = count_entry c.counts (get_or es i x) }) where
   pub counted_same : (all : Counts) → count_entries c.counts (drop i es) ≡ all → count_entries d.counts (drop (i + 1) es) ≡ all
   counted_same all h =
       let P : List Entry → Type 0 = λ ys. count_entries c.counts ys ≡ all in
@@ -19,6 +19,11 @@ module _ (es : List Entry) (i : ℕ) (x : Entry) (c d : Counted) (here : i < len
   counted_most n h =
       let e : Entry = get_or es i x in
       rw noted (counted_at_most (n + i + length (e ∷ [])) (n + (i + 1)) (count_entry c.counts e) (omega arith) (counted_entries (n + i) c.counts (e ∷ []) h))
+
+  pub counted_kept : (old : Counted) → c ≡ record old { counts = c.counts } → d ≡ record old { counts = d.counts }
+  counted_kept old h =
+      let k : Counts = count_entry c.counts (get_or es i x) in
+      noted ∙ (ap (λ (y : Counted). record y { counts = k }) h ∙ ap (λ (n : Counts). record old { counts = n }) (sym (ap (λ (y : Counted). y.counts) noted)))
 
   pub counted_events : d.counts.events ≡ c.counts.events
   counted_events = rw noted (same_events c.counts (get_or es i x ∷ []))

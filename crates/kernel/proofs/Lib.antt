@@ -5,9 +5,11 @@ pub mod UnderWay
 pub mod Delivered
 pub mod Changes
 pub mod Runs
+pub mod Emitted
 pub mod Rows
 pub mod Tables
 pub mod Draws
+pub mod Inputs
 pub mod Loads
 pub mod SettledLemmas
 pub mod Loops

@@ -22,7 +22,7 @@ use Rattle.rv_step.specs.declared.arch.Arch.{Arch}
 
 module _ {X : Type 0} (f : X → ObjState) (xs : List X) (i : ℕ) (b : X) (here : i < length xs) (is : b ≡ get_or xs i b)
     (number : object_of (get_or (map f xs) i (Blank kinds.AtomicCpu)) ≡ i)
-    (tick rebased : ℕ) (counts : Counts) (draining : Bool) (wires : List (List End)) (router : Router) where
+    (tick rebased : ℕ) (counts : Counts) (trace draining : Bool) (wires : List (List End)) (router : Router) where
   -- what the list shows at the part's place
   pub shown_at : get_or (map f xs) i (Blank kinds.AtomicCpu) ≡ f b
   shown_at = get_or-map f xs i b (Blank kinds.AtomicCpu) here ∙ sym (ap f is)
@@ -39,7 +39,7 @@ module _ {X : Type 0} (f : X → ObjState) (xs : List X) (i : ℕ) (b : X) (here
     next = next;
     counts = counts;
     rebased = rebased;
-    trace = false;
+    trace = trace;
     draining = draining;
     wires = wires;
     router = router;

@@ -4,16 +4,19 @@ use Rattle.std.proofs.lemmas.Bool.Decides.{nat_tests}
 use Rattle.std.proofs.Math.ListN.{drop_of_length-le}
 use Rattle.std.proofs.Math.Seq.{drop-cons}
 use Rattle.std.proofs.lemmas.List.{append_assoc, append-nil, get_or-map, length-map}
+use Rattle.cfg_tree.specs.declared.config.Config.{Config}
+use Rattle.ev_queue.specs.declared.due.Due.{Due}
 use Rattle.gm_words.specs.Kind.{kind_of_own}
-use Rattle.gm_words.specs.Platform.{Part, part_classes, wires_of}
-use Rattle.gm_words.specs.Routes.{Route, route_to, routes_of}
+use Rattle.gm_words.specs.Platform.{Part, part_classes, platform, wires_of}
+use Rattle.gm_words.specs.Routes.{Route, Router, route_to, router_of, routes_of}
 use Rattle.gm_words.specs.Shown.{end_shown, part_shown}
 use Rattle.gm_words.specs.declared.platform.End.{End as KeptEnd}
 use Rattle.gm_words.specs.declared.kind.Kind.{Kind}
 use Rattle.gm_words.specs.declared.platform.Part.{Part as KeptPart}
 use Rattle.gm_model.specs.ObjState.{ObjState, kind_of}
-use Rattle.gm_model.specs.Sys.{peer_in}
-use Rattle.kernel.specs.Build.{rank_of, parts_of, rows_of, slot_counts}
+use Rattle.gm_model.specs.Sys.{Sys, peer_in}
+use Rattle.probe_stats.specs.Counted.{Counted, begun_at}
+use Rattle.kernel.specs.Build.{rank_of, parts_of, rows_of, slot_counts, standing}
 
 -- the rows from a place on
 module _ (xs : List KeptPart) (i : ℕ) (x : KeptPart) (here : i < length xs) (is : x ≡ get_or xs i x) where
@@ -112,3 +115,20 @@ peer_there xs k p x peers r l is same h =
 
 pub peer_past : (xs : List KeptPart) (k p : ℕ) → length xs ≤ k → record { part = k; port = p } ≡ peer_in (wires_of (map part_shown xs)) k p
 peer_past xs k p l = ap (λ ys. slice_index_or ys p (record { part = k; port = p })) (sym (wires_past (map part_shown xs) k (rw length-map l)))
+
+-- the machine of these rows, before anything was counted or noted
+pub stands : (c : Config) (pending : List Due) (objects : List ObjState) (rows : List Part) (tick next : ℕ) (k : Counted) (r : Router)
+    → tick ≡ k.since → k ≡ begun_at c 0 → next ≡ 0 → rows ≡ platform c → r ≡ router_of c
+    → ◌≡◌ {A = Sys} (record {
+      tick = tick;
+      pending = pending;
+      objects = objects;
+      next = next;
+      counts = k.counts;
+      rebased = k.since;
+      trace = false;
+      draining = true;
+      wires = wires_of rows;
+      router = r;
+    }) (standing c pending objects)
+stands c pending objects rows tick next k r now counted none platform_is route = rw now (rw counted (rw none (rw platform_is (rw route refl))))

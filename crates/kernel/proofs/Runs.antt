@@ -5,9 +5,6 @@ use Rattle.std.proofs.lemmas.Bool.Decides.{nat_tests}
 use Rattle.ev_queue.specs.declared.due.Due.{Due}
 use Rattle.ev_queue.specs.declared.slot.Slot.{Slot}
 use Rattle.ev_queue.specs.PendingList.{first, rest}
-use Rattle.gc_outside.specs.Told.{Told}
-use Rattle.gc_outside.specs.Sink.{Appends, AppendsFront}
-use Rattle.gc_outside.proofs.Outputs.{told_appends, told_appends_front, told_appends_nothing}
 use Rattle.gm_words.specs.Counts.{Counts, count_access, count_entry, count_entries}
 use Rattle.gm_model.specs.Sys.{Sys}
 use Rattle.gm_model.specs.Deliver.{Delivery}
@@ -23,10 +20,10 @@ use Rattle.gm_words.specs.declared.goal.Reason.{Reason}
 use Rattle.gm_words.specs.declared.goal.Reason.TheVariants as reasons
 use Rattle.gm_model.proofs.RunEnds.{runs_end, run_is, budget_ends}
 use Rattle.gm_words.proofs.CountLaws.{same_events}
-use Rattle.kernel.specs.Ends.{StopsAtByte, TellsEnd, last_noted}
+use Rattle.kernel.specs.Ends.{TellsEnd, last_noted}
 use Rattle.kernel.specs.Ready.{MayServe, HasEventsLeft, at_tick, without_first}
-use Rattle.kernel.proofs.Deliveries.{deliver_counts}
-use Rattle.gm_system.proofs.ForKernel.{console_more as console-append, served_sound, small_event, run_replayed}
+use Rattle.kernel.proofs.Deliveries.{deliver_counts, deliver_trace}
+use Rattle.gm_system.proofs.ForKernel.{served_sound, small_event, run_replayed}
 use Rattle.kernel.proofs.UnderWay.{may_serve}
 
 first_taken : (es : List Due) → rest es ≡ without_nth es 0
@@ -125,19 +122,6 @@ module _ (start s : Sys) (n : ℕ) (here : s ≡ (timed_run start n).sys) where
   unfolding timed_run
   run_more s' e = rw add-one (e ∙ ap (λ x. (fire_first x).sys) here)
 
-  console_more : console_of (timed_run start (suc n)).entries ≡ console_of (timed_run start n).entries ++ console_of (fire_first s).entries
-  unfolding timed_run
-  console_more = console-append (timed_run start n).entries (fire_first (timed_run start n).sys).entries
-      ∙ ap (λ x. console_of (timed_run start n).entries ++ console_of (fire_first x).entries) (sym here)
-
-  pub wrote_more : (a b c : Option (List ℕ)) → Told (Appends (console_of (timed_run start n).entries)) a b → Told (Appends (console_of (fire_first s).entries)) b c
-      → Told (Appends (console_of (timed_run start (n + 1)).entries)) a c
-  wrote_more a b c h k = rw (add-one, console_more) (told_appends (console_of (timed_run start n).entries) (console_of (fire_first s).entries) a b c h k)
-
-  pub wrote_front : (a b c : Option (List ℕ)) → Told (Appends (console_of (timed_run start n).entries)) a b → Told (AppendsFront (console_of (fire_first s).entries)) b c
-      → Told (AppendsFront (console_of (timed_run start (suc n)).entries)) a c
-  wrote_front a b c h k = rw console_more (told_appends_front (console_of (timed_run start n).entries) (console_of (fire_first s).entries) a b c h k)
-
   -- what it noted is what the last event did
   pub noted_more : (es before : List Entry) → es ≡ (fire_first s).entries → es ≡ last_noted start before (n + 1)
   noted_more es before e = rw add-one (e ∙ ap (λ x. (fire_first x).entries) here)
@@ -217,14 +201,19 @@ pub begun_sys : (s : Sys) → s ≡ (timed_run s 0).sys
 unfolding timed_run
 begun_sys s = refl
 
-pub begun_bytes : (s : Sys) (a : Option (List ℕ)) → Told (Appends (console_of (timed_run s 0).entries)) a a
-unfolding timed_run
-begun_bytes s a = told_appends_nothing a
-
 fired_event_more : (s : Sys) (n t : ℕ) (e : Due) → (fire_event s n t (Some e)).sys.counts.events ≡ s.counts.events + 1
 fired_event_more s n t e =
     let d : Delivery = event_delivered (taken_out s n t) e in
     omega (arith, same_events d.sys.counts d.entries, ap (λ c. c.events) (deliver_counts 256 (event_begun (taken_out s n t) e)))
+
+-- an event leaves it whether events are traced
+pub fired_trace : (s : Sys) → (fire_first s).sys.trace ≡ s.trace
+unfolding fire
+fired_trace s = by_first s.pending refl where
+  by_first : (es : List Due) → s.pending ≡ es → (fire_due s (first es)).sys.trace ≡ s.trace
+  by_first [] e = refl
+  by_first (d ∷ es) e = let P : List Due → Type 0 = λ xs. (fire_event s 0 d.tick (slice_get xs 0)).sys.trace ≡ s.trace in
+      subst P (sym e) (deliver_trace 256 (event_begun (taken_out s 0 d.tick) d))
 
 -- an event more is counted
 pub events_more : (s : Sys) → IsSome (first s.pending) → (fire_first s).sys.counts.events ≡ s.counts.events + 1
@@ -250,31 +239,6 @@ module _ (start : Sys) (g : Goal) (n : ℕ) (why : Reason) (h : reason_at g n (t
 
   pub ends_noted : (es before : List Entry) → es ≡ last_noted start before n → es ≡ last_noted start before (run_to start g).events
   ends_noted es before e = rw ends_here e
-
-  pub ends_bytes : (a b : Option (List ℕ)) → Told (Appends (console_of (timed_run start n).entries)) a b → Told (Appends (console_of (run_to start g).ran.entries)) a b
-  ends_bytes a b t = rw ends_here t
-
--- where the console failed
-pub stops_at_byte : (start : Sys) (g : Goal) (n : ℕ) (s s' : Sys) (es : List Entry) (a b c : Option (List ℕ)) → s ≡ (timed_run start n).sys
-    → ((k : ℕ) → k < n → reason_at g k (timed_run start k) ≡ None) → reason_at g n (timed_run start n) ≡ None
-    → s' ≡ (fire_first s).sys → es ≡ (fire_first s).entries → length (console_of (fire_first s).entries) ≡ 1
-    → Told (Appends (console_of (timed_run start n).entries)) a b → Told (AppendsFront (console_of (fire_first s).entries)) b c
-    → StopsAtByte start g s' es a c
-stops_at_byte start g n s s' es a b c here below at e f l h k = record {
-  before = n;
-  within = run_longer g start n (none_before g start n below at);
-  sys = (let P : ℕ → Type 0 = λ m. s' ≡ (timed_run start m).sys in subst P (omega arith) (run_more start s n here s' e));
-  entries = f ∙ ap (λ x. (fire_first x).entries) here;
-  byte = ap (λ x. length (console_of (fire_first x).entries)) (sym here) ∙ l;
-  taken = b;
-  took = h;
-  refused = (let P : Sys → Type 0 = λ x. Told (AppendsFront (console_of (fire_first x).entries)) b c in subst P here k);
-}
-
--- and what it has is a front of the bytes up to the one that it refused
-pub stopped_bytes : (start : Sys) (g : Goal) (s : Sys) (es : List Entry) (a c : Option (List ℕ)) (h : StopsAtByte start g s es a c)
-    → Told (AppendsFront (console_of (timed_run start (suc h.before)).entries)) a c
-stopped_bytes start g s es a c h = wrote_front start (timed_run start h.before).sys h.before refl a h.taken c h.took h.refused
 
 -- a run that goes on serves an event
 module _ (s : Sys) (table : List Slot) (h : IsMachineSound s table) (g : Goal) (n insts : ℕ) (none : ◌≡◌ {A = Option Reason} None (reason_for g n insts s)) where

@@ -3,6 +3,8 @@ pub mod Router
 pub mod Build
 pub mod Ready
 pub mod Ends
+pub mod Emitted
+pub mod Input
 pub mod Load
 pub mod Settled
 pub use Rattle.ev_queue.specs.PendingList
@@ -28,9 +30,10 @@ pub use Rattle.gm_model.specs.View
 pub use Rattle.obj_core.specs.Events
 pub use Rattle.obj_core.specs.Handles
 pub use Rattle.obj_core.specs.Out
-pub use Rattle.gc_outside.specs.Told
-pub use Rattle.gc_outside.specs.Sink
+pub use Rattle.gc_outside.specs.Emissions
+pub use Rattle.gc_outside.specs.Sinks
 pub use Rattle.gc_outside.specs.Faults
 pub use Rattle.probe_stats.specs.Counted
+pub use Rattle.probe_stats.specs.Trace
 pub use Rattle.elf_image.specs.Image
 pub use Rattle.elf_image.specs.Ram

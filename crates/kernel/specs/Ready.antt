@@ -1,5 +1,6 @@
 -- What one wake, or one packet that is passed on, needs in the middle of an event, and what an event's items need.
-use Rattle.std.specs.Prelude.{◌≡◌, ℕ, ◌+◌, ◌*◌, ◌^◌, ◌<◌, ◌≤◌, List, [], length, IfSome}
+use Rattle.std.specs.Prelude.{◌≡◌, ℕ, ◌+◌, ◌*◌, ◌^◌, ◌<◌, ◌≤◌, List, [], ◌∷◌, length, drop, IfSome}
+use Rattle.gc_base.specs.declared.ids.PortNo.{PortNo}
 use Rattle.gc_base.specs.declared.limits.TheConstants.{LATENCY_MAX, TOP}
 use Rattle.ev_queue.specs.PendingList.{rest}
 use Rattle.ev_queue.specs.declared.due.Due.{Due}
@@ -7,10 +8,11 @@ use Rattle.ev_queue.specs.declared.slot.Slot.{Slot}
 use Rattle.gm_words.specs.Allowed.{MayCome, MayPass}
 use Rattle.gm_words.specs.Platform.{End}
 use Rattle.gm_words.specs.Routes.{destination}
+use Rattle.gm_words.specs.declared.act.Act.TheVariants as acts
 use Rattle.gm_words.specs.declared.packet.Packet.{Packet}
 use Rattle.gm_words.specs.declared.wake.Wake.{Wake}
 use Rattle.gm_words.specs.declared.wake.Wake.TheVariants as wakes
-use Rattle.gm_model.specs.Deliver.{Delivery, deliver, deliver_wake, told_wake, way_latency}
+use Rattle.gm_model.specs.Deliver.{Delivery, Item, Sent, deliver, deliver_wake, told_wake, way_latency}
 use Rattle.gm_model.specs.Fire.{event_begun}
 use Rattle.gm_model.specs.ObjState.{object_of}
 use Rattle.gm_model.specs.Sys.{Sys, object_at, pass_at, step_at}
@@ -65,6 +67,11 @@ pub record Delivers (least : ℕ) (d e : Delivery) : Type 0 where
 -- so few events were served since the counters began that no number of theirs runs out
 abbrev pub HasEventsLeft : Sys → Type 0
 HasEventsLeft s = s.counts.events < 2 ^ 54
+
+-- the first item is a packet that this sender passes on at once
+pub record IsPassedFirst (items : List Item) (sender : ℕ) (p : Packet) : Type 0 where
+  pub port : PortNo
+  pub first : items ≡ Sent sender (acts.Atomic port p) ∷ drop 1 items
 
 -- an event is under way, and each wake that it causes is allowed
 pub record IsUnderWay (d : Delivery) (table : List Slot) : Type 0 where

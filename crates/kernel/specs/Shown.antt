@@ -1,17 +1,19 @@
 -- A machine as the model sees it, and what is so of it between two calls.
-use Rattle.std.specs.Prelude.{false, List, map}
+use Rattle.std.specs.Prelude.{ℕ, Bool, List, length, map}
 use Rattle.std.specs.declared.alloc.Global.{Global}
 use Rattle.std.specs.declared.dyn_box.DynBox.{DynBox}
 use Rattle.gm_model.specs.Deliver.{Delivery}
 use Rattle.gm_model.specs.ObjState.{ObjState}
 use Rattle.gm_system.specs.Machine.{IsMachineSound}
-use Rattle.gm_words.specs.Platform.{wires_of}
+use Rattle.cfg_tree.specs.declared.config.Config.{Config}
+use Rattle.gm_words.specs.Platform.{Part, platform, wires_of}
 use Rattle.gm_words.specs.Shown.{part_shown}
 use Rattle.gm_model.specs.Sys.{Sys}
 use Rattle.gm_words.specs.declared.entry.Entry.{Entry}
 use Rattle.kernel.specs.declared.machine.Machine.{Machine}
+use Rattle.probe_stats.specs.Counted.{Counted}
 
--- the machine as one value; `f` is what a boxed part shows, and nothing is traced yet
+-- the machine as one value; `f` is what a boxed part shows
 abbrev pub sys_of : {I : Type 0} {D : I → Type 0} → (DynBox I Global D → ObjState) → Machine I D → Sys
 sys_of f m = record {
   tick = m.tick;
@@ -20,7 +22,7 @@ sys_of f m = record {
   next = m.out.next;
   counts = m.counters.counts;
   rebased = m.counters.since;
-  trace = false;
+  trace = m.trace;
   draining = m.draining;
   wires = wires_of (map part_shown m.platform.items);
   router = m.router;
@@ -33,6 +35,26 @@ delivery_of f m = record { sys = sys_of f m; items = m.out.items; entries = m.ou
 -- what the last event noted
 abbrev pub entries_of : {I : Type 0} {D : I → Type 0} → Machine I D → List Entry
 entries_of m = m.out.entries
+
+-- what it counted, and of which parts
+abbrev pub counted_of : {I : Type 0} {D : I → Type 0} → Machine I D → Counted
+counted_of m = m.counters
+
+-- what the lines of a machine name, which never changes: its parts, and how many caches are configured
+pub record Named : Type 0 where
+  pub parts : List Part
+  pub caches : ℕ
+
+abbrev pub named_of : {I : Type 0} {D : I → Type 0} → Machine I D → Named
+named_of m = record { parts = m.counters.parts; caches = m.counters.caches }
+
+-- the machine of a configuration has these
+abbrev pub named_by : Config → Named
+named_by c = record { parts = platform c; caches = length c.caches }
+
+-- it traces events
+abbrev pub traces : {I : Type 0} {D : I → Type 0} → Machine I D → Bool
+traces m = m.trace
 
 -- a machine between two calls: each wake that comes is allowed
 pub record IsMachine {I : Type 0} {D : I → Type 0} (f : DynBox I Global D → ObjState) (m : Machine I D) : Type 0 where

@@ -5,7 +5,7 @@ ghost use Rattle.gm_words.specs.Allowed.{IsAllowed, MayCome, MayPass};
 ghost use Rattle.gm_words.specs.Kind.{kind_of_own};
 ghost use Rattle.gm_model.specs.ObjState.{kind_of, IsBlank};
 ghost use Rattle.gm_model.specs.ObjectStep.{object_step, atomic_step};
-ghost use Rattle.gm_model.specs.Command.{start_of, resume_step, arch_of, with_arch, exit_code, own_bytes, with_own_bytes};
+ghost use Rattle.gm_model.specs.Command.{start_of, resume_step, arch_of, with_arch, exit_code, takes_input, with_input, own_bytes, with_own_bytes};
 ghost use Rattle.obj_core.specs.Handles.{AreHandlesOf, HasHandles};
 ghost use Rattle.obj_core.specs.Events.{with_changes};
 ghost use Rattle.obj_core.specs.Out.{HasRoom, extended};
@@ -86,6 +86,13 @@ pub(crate) fn resume_box(part: &mut Box<dyn SimObject>, now: Tick, q: &mut Event
     ensures events { q.new ≡ with_changes q.old (state part.old) (resume_step (state part.old) now).changes }
 {
     part.resume(now, q);
+}
+
+pub(crate) fn input_box(part: &mut Box<dyn SimObject>, byte: u8) -> bool
+    ensures taken { result ≡ takes_input (state part.old) }
+    ensures state { state part.new ≡ with_input byte (state part.old) }
+{
+    part.input(byte)
 }
 
 pub(crate) fn give_arch_box(part: &mut Box<dyn SimObject>, a: Arch)

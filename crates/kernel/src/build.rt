@@ -183,7 +183,7 @@ fn counts(alloc: Global, rows: &[Part]) -> Result<Vec<u8>, NoMemory>
 
 impl Machine {
     ghost use Rattle.kernel.specs.Settled.{IsSettled};
-    ghost use Rattle.kernel.specs.Shown.{sys_of, IsMachine};
+    ghost use Rattle.kernel.specs.Shown.{sys_of, named_of, named_by, IsMachine};
 
     /// Takes the parts that it needs, and configures them. The machine stands at tick 0, drained, with the hart at the
     /// beginning of RAM, which is zero.
@@ -196,6 +196,7 @@ impl Machine {
         requires valid { IsValidConfig c.now }
         ensures built { IfOk result (λ m. sys_of state m ≡ start_state c.now ram_base []) }
         ensures settled { IfOk result (λ m. IsSettled (sys_of state m)) }
+        ensures named { IfOk result (λ m. named_of m ≡ named_by c.now) }
         ensures machine { IfOk result (λ m. IsMachine state m) }
         ensures whole { OnOk result (lacking c.now (map (λ b. state b) bin.items) ≡ None) }
         ensures fault { IfErr result (λ e. NamesLack e c.now (map (λ b. state b) bin.items)) }
@@ -223,6 +224,7 @@ impl Machine {
         requires enough { AreEnough (map (λ b. state b) bin.items) (platform c.now) }
         ensures built { IfOk result (λ m. sys_of state m ≡ standing c.now [] (all_configured c.now 0 (platform c.now))) }
         ensures table { IfOk result (λ m. m.queue.table ≡ given_table 0 (platform c.now)) }
+        ensures named { IfOk result (λ m. named_of m ≡ named_by c.now) }
     {
         let mut parts = draw(alloc, rows.as_slice(), bin)?;
         let counts = counts(alloc, rows.as_slice())?;
@@ -244,8 +246,9 @@ impl Machine {
         ensures machine { IfOk result (λ m. sys_of state m
             ≡ standing c.now queue.pending (map (λ b. state b) parts.items)) }
         ensures table { IfOk result (λ m. m.queue.table ≡ queue.table) }
+        ensures named { IfOk result (λ m. named_of m ≡ named_by c.now) }
     {
-        let counters = Counters::new(alloc, rows.len())?;
+        let counters = Counters::new(alloc, c)?;
         let router = Router::new(alloc, c, rows.as_slice())?;
         let tick = counters.since();
         Ok(Machine {
@@ -256,6 +259,7 @@ impl Machine {
             counters,
             router,
             tick,
+            trace: false,
             draining: true,
         })
     }

@@ -8,7 +8,7 @@ ghost use Rattle.gm_words.specs.Packet.{fault_response};
 ghost use Rattle.gm_words.specs.Routes.{destination};
 ghost use Rattle.gm_model.specs.Sys.{active_cpu, pass_at, peer_in, step_at};
 ghost use Rattle.gm_words.specs.declared.wake.Wake.TheVariants.{Line, AtomicDone};
-ghost use Rattle.kernel.specs.Ready.{IsReadyForWake, IsReadyForPacket, MayGoOn, HasItemRoom, IsUnderWay, Delivers, MayOffer};
+ghost use Rattle.kernel.specs.Ready.{IsReadyForWake, IsReadyForPacket, MayGoOn, HasItemRoom, IsPassedFirst, IsUnderWay, Delivers, MayOffer};
 
 use crate::boxes::{arch_box, pass_box, wake_box};
 use crate::machine::Machine;
@@ -58,9 +58,26 @@ impl Machine {
         ensures none { OnFalse result (delivery_of state self.new ≡ delivery_of state self.old) }
         ensures landed { OnFalse result (self.old.out.items ≡ []) }
         ensures table { self.new.queue.table ≡ self.old.queue.table }
+        ensures counters { self.new.counters ≡ self.old.counters }
+    {
+        let none_left = self.out.is_empty();
+        if none_left {
+            return false;
+        }
+        self.deliver_first();
+        true
+    }
+
+    /// Delivers the first item. Most are packets that are passed at once. The others are kept apart, so that their locals,
+    /// which are cleared where a function begins, are cleared for them alone.
+    #[inline(always)]
+    fn deliver_first(&mut self)
+        requires { IsUnderWay (delivery_of state self.old) self.old.queue.table }
+        ensures delivered { Delivers 1 (delivery_of state self.old) (delivery_of state self.new) }
+        ensures table { self.new.queue.table ≡ self.old.queue.table }
+        ensures counters { self.new.counters ≡ self.old.counters }
     {
         match self.out.first() {
-            None => false,
             Some(
                 Item::Sent {
                     sender,
@@ -68,12 +85,32 @@ impl Machine {
                 },
             ) => {
                 let sender = *sender;
-                // The one copy of a packet that is made on its way to the server.
-                let mut packet = *pkt;
-                self.out.drop_first();
-                let latency = self.pass(&mut packet);
-                self.answer(sender, packet, latency);
-                true
+                let packet = *pkt;
+                self.pass_on(sender, packet);
+            }
+            _ => self.deliver_any(),
+        }
+    }
+
+    /// Delivers the first item, whichever it is.
+    #[inline(never)]
+    fn deliver_any(&mut self)
+        requires { IsUnderWay (delivery_of state self.old) self.old.queue.table }
+        ensures delivered { Delivers 1 (delivery_of state self.old) (delivery_of state self.new) }
+        ensures table { self.new.queue.table ≡ self.old.queue.table }
+        ensures counters { self.new.counters ≡ self.old.counters }
+    {
+        match self.out.first() {
+            None => {}
+            Some(
+                Item::Sent {
+                    sender,
+                    act: Act::Atomic { pkt, .. },
+                },
+            ) => {
+                let sender = *sender;
+                let packet = *pkt;
+                self.pass_on(sender, packet);
             }
             Some(
                 Item::Sent {
@@ -84,7 +121,6 @@ impl Machine {
                 let (bit, level) = (*bit, *level);
                 self.out.drop_first();
                 self.set_line(bit, level);
-                true
             }
             Some(
                 Item::Sent {
@@ -95,7 +131,6 @@ impl Machine {
                 let (sender, port, packet) = (*sender, *port, *pkt);
                 self.out.drop_first();
                 self.offer(sender, port, packet);
-                true
             }
             Some(
                 Item::Sent {
@@ -106,7 +141,6 @@ impl Machine {
                 let called = peer(self.platform.as_slice(), *sender, *port);
                 self.out.drop_first();
                 self.wake(called.part, Wake::Retry { port: called.port });
-                true
             }
             Some(
                 Item::Done {
@@ -122,9 +156,22 @@ impl Machine {
                 };
                 self.out.drop_first();
                 self.wake(sender, done);
-                true
             }
         }
+    }
+
+    /// Passes the first item on, which is this packet of a sender that waits for it, and tells the sender.
+    #[inline(always)]
+    fn pass_on(&mut self, sender: ObjId, mut packet: Packet)
+        requires under_way { IsUnderWay (delivery_of state self.old) self.old.queue.table }
+        requires first { IsPassedFirst self.old.out.items sender.0 packet }
+        ensures delivered { Delivers 1 (delivery_of state self.old) (delivery_of state self.new) }
+        ensures table { self.new.queue.table ≡ self.old.queue.table }
+        ensures counters { self.new.counters ≡ self.old.counters }
+    {
+        self.out.drop_first();
+        let latency = self.pass(&mut packet);
+        self.answer(sender, packet, latency);
     }
 
     /// Tells a sender of the packet that it passed on: at once, if nothing else is to be delivered, and else after that.
@@ -136,6 +183,7 @@ impl Machine {
         ensures told { Delivers 0 (done_at (delivery_of state self.old) sender.0 packet latency)
             (delivery_of state self.new) }
         ensures table { self.new.queue.table ≡ self.old.queue.table }
+        ensures counters { self.new.counters ≡ self.old.counters }
     {
         if self.out.is_empty() {
             let done = Wake::AtomicDone {
@@ -156,6 +204,7 @@ impl Machine {
         ensures delivered { delivery_of state self.new ≡ deliver_wake (delivery_of state self.old) i.0 w }
         ensures answer { result ≡ (step_at (sys_of state self.old) i.0 w).answer }
         ensures table { self.new.queue.table ≡ self.old.queue.table }
+        ensures counters { self.new.counters ≡ self.old.counters }
     {
         self.out.for_sender(i);
         wake_box(
@@ -175,6 +224,7 @@ impl Machine {
         ensures delivered { delivery_of state self.new ≡ deliver_offer (delivery_of state self.old) sender.0 port.0 packet
             (peer_in (sys_of state self.old).wires sender.0 port.0) }
         ensures table { self.new.queue.table ≡ self.old.queue.table }
+        ensures counters { self.new.counters ≡ self.old.counters }
     {
         let shown = peer(self.platform.as_slice(), sender, port);
         let answer = self.wake(
@@ -196,6 +246,7 @@ impl Machine {
         ensures delivered { delivery_of state self.new
             ≡ deliver_line (delivery_of state self.old) (Line bit level) (active_cpu (sys_of state self.old).objects) }
         ensures table { self.new.queue.table ≡ self.old.queue.table }
+        ensures counters { self.new.counters ≡ self.old.counters }
     {
         if let Some(cpu) = self.active_cpu() {
             self.wake(cpu, Wake::Line { bit, level });
@@ -224,6 +275,7 @@ impl Machine {
             ≡ deliver_atomic (delivery_of state self.old) sender packet.old
             (destination (sys_of state self.old).routes packet.old.addr) }
         ensures table { self.new.queue.table ≡ self.old.queue.table }
+        ensures counters { self.new.counters ≡ self.old.counters }
     {
         let way = self.router.latency();
         match self.router.destination(packet.addr) {
@@ -245,6 +297,7 @@ impl Machine {
         ensures latency { result ≡ way_latency (pass_at (sys_of state self.old) server.0 packet.old).way }
         ensures most { result ≤ LATENCY_MAX }
         ensures table { self.new.queue.table ≡ self.old.queue.table }
+        ensures counters { self.new.counters ≡ self.old.counters }
     {
         self.out.for_sender(server);
         let way = pass_box(

@@ -18,8 +18,7 @@ pub(crate) fn count(counters: &mut Counters, entries: &[Entry])
     requires counts { IsCountedUpTo (2 ^ 63) counters.old.counts }
     requires events { counters.old.counts.events < 2 ^ 63 }
     requires few { length entries.now ≤ 528 }
-    ensures counts { counters.new.counts ≡ count_event counters.old.counts entries.now }
-    ensures since { counters.new.since ≡ counters.old.since }
+    ensures { counters.new ≡ record counters.old { counts = count_event counters.old.counts entries.now } }
 {
     for entry in entries.iter() {
         counters.note(entry);

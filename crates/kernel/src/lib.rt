@@ -12,6 +12,7 @@ mod build_fault;
 mod deliver;
 mod draw;
 mod entries;
+mod input;
 mod load;
 mod machine;
 mod reason;
@@ -19,6 +20,7 @@ mod router;
 mod run_end;
 mod serve;
 mod wiring;
+mod write;
 
 pub use build_fault::BuildFault;
 pub use machine::Machine;

@@ -9,7 +9,7 @@ ghost use Rattle.gm_model.specs.Start.{start_state, with_raw};
 ghost use Rattle.gm_model.specs.View.{own_ram};
 ghost use Rattle.kernel.specs.Load.{IsAsBuilt, entered, with_entry};
 ghost use Rattle.kernel.specs.Settled.{IsSettled};
-ghost use Rattle.kernel.specs.Shown.{sys_of, entries_of, IsMachine};
+ghost use Rattle.kernel.specs.Shown.{sys_of, entries_of, named_of, IsMachine};
 
 use crate::boxes::{arch_box, give_arch_box};
 use crate::machine::Machine;
@@ -27,6 +27,7 @@ impl Machine {
         ensures loaded { (c : Config) → IsAsBuilt c (sys_of state self.old) → All (LiesInRam c.system_ram) image.now.pieces
             → sys_of state self.new ≡ start_state c image.now.entry (ram_of image.now c.system_ram) }
         ensures entries { entries_of self.new ≡ entries_of self.old }
+        ensures named { named_of self.new ≡ named_of self.old }
         ensures settled { IsSettled (sys_of state self.new) }
         ensures machine { IsMachine state self.new }
     {
@@ -41,6 +42,7 @@ impl Machine {
     fn enter(&mut self, entry: u64)
         ensures entered { sys_of state self.new ≡ entered entry (sys_of state self.old) }
         ensures entries { entries_of self.new ≡ entries_of self.old }
+        ensures named { named_of self.new ≡ named_of self.old }
         ensures table { self.new.queue.table ≡ self.old.queue.table }
     {
         for i in 0..self.parts.len() {

@@ -6,7 +6,7 @@ use crate::router::Router;
 use ev_queue::EventQueue;
 use gc_base::Tick;
 use gm_model::Entry;
-use gm_model::platform::{EXIT_BASE, Part, RAM_BASE};
+use gm_model::platform::{Part, RAM_BASE};
 use obj_core::{Outbox, SimObject};
 use probe_stats::Counters;
 use rv_step::Arch;
@@ -25,6 +25,8 @@ pub struct Machine {
     pub(crate) counters: Counters,
     pub(crate) router: Router,
     pub(crate) tick: Tick,
+    /// Whether events are traced.
+    pub(crate) trace: bool,
     pub(crate) draining: bool,
 }
 
@@ -36,7 +38,7 @@ impl Machine {
     ghost use Rattle.rv_step.specs.FlatMem.{ram_base};
     ghost use Rattle.gm_model.specs.Drained.{is_settled};
     ghost use Rattle.kernel.specs.Settled.{IsSettled};
-    ghost use Rattle.kernel.specs.Shown.{sys_of, entries_of, IsMachine};
+    ghost use Rattle.kernel.specs.Shown.{sys_of, entries_of, counted_of, named_of, IsMachine};
 
     /// The tick at which it stands.
     pub fn now(&self) -> Tick
@@ -50,6 +52,24 @@ impl Machine {
         ensures { result.now ≡ entries_of self.now }
     {
         self.out.entries()
+    }
+
+    /// How often what was noted since the counters began.
+    pub fn counters(&self) -> &Counters
+        ensures { result.now ≡ counted_of self.now }
+    {
+        &self.counters
+    }
+
+    /// Has events traced, or not.
+    pub fn trace(&mut self, on: bool)
+        requires machine { IsMachine state self.old }
+        ensures traced { sys_of state self.new ≡ record (sys_of state self.old) { trace = on } }
+        ensures entries { entries_of self.new ≡ entries_of self.old }
+        ensures named { named_of self.new ≡ named_of self.old }
+        ensures machine { IsMachine state self.new }
+    {
+        self.trace = on;
     }
 
     /// The parts in the order of their paths, so that `ObjId(n)` names the n-th.
@@ -75,7 +95,7 @@ impl Machine {
     pub fn exited(&self) -> Option<u32>
         ensures { result ≡ exit_of (sys_of state self.now) }
     {
-        let exit = self.router.destination(EXIT_BASE)?.0 as usize;
+        let exit = self.router.exit()?.0 as usize;
         if exit < self.parts.len() {
             exit_box(&self.parts[exit])
         } else {
@@ -105,6 +125,7 @@ impl Machine {
         requires most { addr - ram_base + length from.now ≤ length (own_ram (sys_of state self.old).objects) }
         ensures raw { sys_of state self.new ≡ with_raw addr from.now (sys_of state self.old) }
         ensures entries { entries_of self.new ≡ entries_of self.old }
+        ensures named { named_of self.new ≡ named_of self.old }
         ensures settled { IsSettled (sys_of state self.old) → IsSettled (sys_of state self.new) }
         ensures machine { IsMachine state self.new }
     {
@@ -117,6 +138,7 @@ impl Machine {
         requires within { at + length from.now ≤ length (own_ram (sys_of state self.old).objects) }
         ensures raw { sys_of state self.new ≡ with_raw (ram_base + at) from.now (sys_of state self.old) }
         ensures entries { entries_of self.new ≡ entries_of self.old }
+        ensures named { named_of self.new ≡ named_of self.old }
         ensures table { self.new.queue.table ≡ self.old.queue.table }
     {
         for i in 0..self.parts.len() {
@@ -130,6 +152,7 @@ impl Machine {
         requires settled { IsSettled (sys_of state self.old) }
         ensures resumed { sys_of state self.new ≡ resumed_state (sys_of state self.old) }
         ensures entries { entries_of self.new ≡ entries_of self.old }
+        ensures named { named_of self.new ≡ named_of self.old }
         ensures machine { IsMachine state self.new }
     {
         self.resume_parts();
@@ -141,6 +164,7 @@ impl Machine {
         requires { IsMachine state self.old }
         ensures resumed { sys_of state self.new ≡ commanded (λ o. resume_step o (sys_of state self.old).tick) (sys_of state self.old) }
         ensures entries { entries_of self.new ≡ entries_of self.old }
+        ensures named { named_of self.new ≡ named_of self.old }
         ensures table { self.new.queue.table ≡ self.old.queue.table }
     {
         for i in 0..self.parts.len() {

@@ -3,12 +3,13 @@ ghost use Rattle.std.specs.Prelude.{◌≡◌, ◌+◌, ◌≤◌, ◌++◌, len
 ghost use Rattle.kernel.specs.Router.{routes_shown};
 ghost use Rattle.std.specs.Option.{option_map};
 ghost use Rattle.cfg_tree.specs.Valid.{IsValidConfig};
+ghost use Rattle.rv_step.specs.Flat.{exit_base};
 ghost use Rattle.gm_words.specs.Routes.{destination, route_to, routes_of};
 ghost use Rattle.gm_words.specs.Shown.{part_shown};
 
 use gc_base::{NoMemory, ObjId};
 use gm_model::Config;
-use gm_model::platform::Part;
+use gm_model::platform::{EXIT_BASE, Part};
 use std::alloc::Global;
 use std::marker::Model;
 
@@ -25,15 +26,22 @@ pub struct Route {
 pub struct Router {
     latency: u64,
     routes: Vec<Route>,
+    /// The exit device, if there is one. It is kept, since it is asked before each event.
+    exit: Option<ObjId>,
 }
 
 impl Model for Router {
-    ghost use Rattle.gm_words.specs.Routes.{Router as ModelRouter};
+    ghost use Rattle.std.specs.Option.{option_map};
+    ghost use Rattle.std.specs.Prelude.{◌≡◌};
+    ghost use Rattle.rv_step.specs.Flat.{exit_base};
+    ghost use Rattle.gm_words.specs.Routes.{Router as ModelRouter, destination};
     ghost use Rattle.kernel.specs.Router.{routes_shown};
 
     ghost Value = { ModelRouter };
 
     ghost view = { λ r. record { latency = r.latency; routes = routes_shown r.routes.items } };
+
+    ghost invariant = { λ r. option_map (λ o. o.0) r.exit ≡ destination (routes_shown r.routes.items) exit_base };
 }
 
 impl Router {
@@ -46,9 +54,12 @@ impl Router {
           routes = routes_of 0 (map part_shown platform.now);
         }) }
     {
+        let routes = routes(alloc, platform)?;
+        let exit = object_of(routes.as_slice(), EXIT_BASE);
         Ok(Router {
             latency: c.corebus_latency + c.membus_latency,
-            routes: routes(alloc, platform)?,
+            routes,
+            exit,
         })
     }
 
@@ -63,13 +74,29 @@ impl Router {
     pub(crate) fn destination(&self, address: u64) -> Option<ObjId>
         ensures { option_map (λ o. o.0) result ≡ destination self.now.routes address }
     {
-        for route in self.routes.iter() {
-            if route.first <= address && address <= route.last {
-                return Some(route.object);
-            }
-        }
-        None
+        object_of(self.routes.as_slice(), address)
     }
+
+    /// The object to which the exit device's address goes, if it is of a range.
+    #[inline(always)]
+    pub(crate) fn exit(&self) -> Option<ObjId>
+        ensures { option_map (λ o. o.0) result ≡ destination self.now.routes exit_base }
+    {
+        self.exit
+    }
+}
+
+/// The object to which one of the routes leads an address, if one does.
+#[inline(always)]
+fn object_of(routes: &[Route], address: u64) -> Option<ObjId>
+    ensures { option_map (λ o. o.0) result ≡ destination (routes_shown routes.now) address }
+{
+    for route in routes.iter() {
+        if route.first <= address && address <= route.last {
+            return Some(route.object);
+        }
+    }
+    None
 }
 
 /// The routes to the parts of a platform, in their order.

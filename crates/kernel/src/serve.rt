@@ -1,19 +1,18 @@
 // The loop: an event is served, all that it causes is delivered, and so on until a run ends.
-ghost use Rattle.std.specs.Prelude.{◌≡◌, ℕ, ◌+◌, ◌^◌, ◌≤◌, ◌<◌, List, [], ◌∷◌, Option, Some, None, IfOk, OnOk, IfErr, OnErr, IfSome, OnSome, IfNone, length, IsSome};
+ghost use Rattle.std.specs.Prelude.{◌≡◌, ℕ, ◌+◌, ◌^◌, ◌≤◌, ◌<◌, IfOk, OnOk, IfErr, OnErr, IfSome, OnSome, IfNone, MatchOption, is_ok};
 ghost use Rattle.std.specs.Option.{option_map, option_to_list};
 ghost use Rattle.gc_base.specs.declared.limits.TheConstants.{TOP};
-ghost use Rattle.gc_outside.specs.Faults.{Rose};
-ghost use Rattle.gc_outside.specs.Sink.{Appends, AppendsFront};
-ghost use Rattle.gc_outside.specs.Told.{Told};
+ghost use Rattle.gc_outside.specs.Emissions.{EmitsInOrder};
+ghost use Rattle.gc_outside.specs.Sinks.{sinks};
 ghost use Rattle.ev_queue.specs.PendingList.{first};
 ghost use Rattle.gm_system.specs.Runs.{IsRunReplayed};
 ghost use Rattle.gm_model.specs.Deliver.{deliver, items_max};
 ghost use Rattle.gm_model.specs.Fire.{fire_first, event_delivered, counted};
 ghost use Rattle.gm_words.specs.Entries.{console_of};
 ghost use Rattle.gm_model.specs.Run.{reason_for, run_to};
-ghost use Rattle.kernel.specs.Ends.{TellsEnd, StopsAtByte, IsFaultOf, last_noted};
+ghost use Rattle.kernel.specs.Emitted.{first_emissions, run_emissions};
+ghost use Rattle.kernel.specs.Ends.{TellsEnd, StopsInEvent, IsFaultOf, last_noted};
 ghost use Rattle.kernel.specs.Ready.{IsUnderWay, MayServe, HasEventsLeft, at_tick, not_begun, without_first};
-ghost use Rattle.kernel.specs.declared.run_end.RunFault.{RunFault};
 
 use crate::entries::{count, told};
 use crate::machine::Machine;
@@ -28,7 +27,7 @@ use gm_model::{Goal, Reason, Wake};
 const ITEMS_MAX: u32 = 256;
 
 impl Machine {
-    ghost use Rattle.kernel.specs.Shown.{sys_of, delivery_of, entries_of, IsMachine};
+    ghost use Rattle.kernel.specs.Shown.{sys_of, delivery_of, entries_of, named_of, IsMachine};
 
     /// Serves the first pending event at its own tick, with all that it causes.
     pub fn fire(&mut self) -> Option<Fired>
@@ -42,6 +41,7 @@ impl Machine {
         ensures console { IfSome result (λ f. option_to_list f.console
             ≡ console_of (fire_first (sys_of state self.old)).entries) }
         ensures none { IfNone result (entries_of self.new ≡ entries_of self.old) }
+        ensures named { named_of self.new ≡ named_of self.old }
         // What it noted is the instruction set's over flat memory.
         ensures replay { IsRunReplayed (sys_of state self.old) (fire_first (sys_of state self.old)) }
         ensures machine { IsMachine state self.new }
@@ -57,6 +57,7 @@ impl Machine {
         ensures rest { sys_of state self.new ≡ without_first (sys_of state self.old) }
         ensures entries { entries_of self.new ≡ entries_of self.old }
         ensures table { self.new.queue.table ≡ self.old.queue.table }
+        ensures counters { self.new.counters ≡ self.old.counters }
     {
         self.queue.pop()
     }
@@ -70,6 +71,7 @@ impl Machine {
         ensures entries { entries_of self.new
             ≡ (event_delivered (at_tick due.now.tick (sys_of state self.old)) due.now).entries }
         ensures table { self.new.queue.table ≡ self.old.queue.table }
+        ensures named { named_of self.new ≡ named_of self.old }
     {
         self.begin(due.tick);
         self.wake(due.owner, Wake::Event { slot: due.slot });
@@ -82,6 +84,7 @@ impl Machine {
     fn begin(&mut self, tick: Tick)
         ensures begun { delivery_of state self.new ≡ not_begun (at_tick tick (sys_of state self.old)) }
         ensures table { self.new.queue.table ≡ self.old.queue.table }
+        ensures counters { self.new.counters ≡ self.old.counters }
     {
         self.tick = tick;
         self.out.clear_items();
@@ -94,6 +97,7 @@ impl Machine {
         requires { IsUnderWay (delivery_of state self.old) self.old.queue.table }
         ensures delivered { delivery_of state self.new ≡ deliver items_max (delivery_of state self.old) }
         ensures table { self.new.queue.table ≡ self.old.queue.table }
+        ensures counters { self.new.counters ≡ self.old.counters }
     {
         'items: for _n in 0..ITEMS_MAX {
             if !self.deliver_item() {
@@ -102,12 +106,12 @@ impl Machine {
         }
     }
 
-    /// Serves events until there is a reason to end, and hands the console its bytes.
+    /// Serves events until there is a reason to end. Each writes its console's byte and, where events are traced, its lines.
     pub fn run<C: Sink, R: Sink>(
         &mut self,
         g: Goal,
         console: &mut C,
-        _report: &mut R,
+        report: &mut R,
     ) -> Result<RunEnd, RunFault>
         requires machine { IsMachine state self.old }
         requires events { (sys_of state self.old).counts.events + g.budget < 2 ^ 54 }
@@ -115,21 +119,21 @@ impl Machine {
         ensures ended { IfOk result (λ e. TellsEnd e (run_to (sys_of state self.old) g)) }
         ensures budget { IfOk result (λ e. e.events ≤ g.budget) }
         ensures ran { OnOk result (sys_of state self.new ≡ (run_to (sys_of state self.old) g).ran.sys) }
-        ensures console { OnOk result (Told (Appends (console_of (run_to (sys_of state self.old) g).ran.entries))
-            (C.taken console.old) (C.taken console.new)) }
         ensures noted { OnOk result (entries_of self.new
             ≡ last_noted (sys_of state self.old) (entries_of self.old) (run_to (sys_of state self.old) g).events) }
         ensures replay { IsRunReplayed (sys_of state self.old) (run_to (sys_of state self.old) g).ran }
+        ensures named { named_of self.new ≡ named_of self.old }
 
-        // A fault of the console leaves the machine after the whole event whose byte was refused.
-        ensures stopped { OnErr result (StopsAtByte (sys_of state self.old) g (sys_of state self.new)
-            (entries_of self.new) (C.taken console.old) (C.taken console.new)) }
+        // What its events write was taken in order, or, where a sink failed, a front of it.
+        ensures emitted { EmitsInOrder (run_emissions (named_of self.old).parts (sys_of state self.old) g) (is_ok result)
+            (sinks C.Sink R.Sink console.old report.old) (sinks C.Sink R.Sink console.new report.new) }
+
+        // A fault leaves the machine after the whole event whose byte or line was refused.
+        ensures stopped { OnErr result (StopsInEvent (named_of self.old).parts (sys_of state self.old) g
+            (sys_of state self.new) (entries_of self.new)
+            (sinks C.Sink R.Sink console.old report.old) (sinks C.Sink R.Sink console.new report.new)) }
         ensures cause { IfErr result (λ f. IsFaultOf f (C.faults console.old) (C.faults console.new)
-            (R.faults _report.old) (R.faults _report.new)) }
-        ensures count { C.faults console.old ≤ C.faults console.new }
-
-        // Nothing is traced yet, so the report takes nothing.
-        ensures report { _report.new ≡ _report.old }
+            (R.faults report.old) (R.faults report.new)) }
         ensures machine { IsMachine state self.new }
     {
         let start = self.counters.retired();
@@ -142,7 +146,7 @@ impl Machine {
                     events,
                 });
             }
-            self.step(console)?;
+            self.step(console, report)?;
         }
         let insts = self.counters.retired() - start;
         match self.reason(&g, g.budget, insts) {
@@ -155,27 +159,38 @@ impl Machine {
         }
     }
 
-    /// Serves the first pending event, and hands the console its byte.
-    fn step<C: Sink>(&mut self, console: &mut C) -> Result<(), RunFault>
+    /// Serves the first pending event, and writes its console's byte and, where events are traced, its lines.
+    pub fn step<C: Sink, R: Sink>(
+        &mut self,
+        console: &mut C,
+        report: &mut R,
+    ) -> Result<Option<Fired>, RunFault>
         requires machine { IsMachine state self.old }
         requires events { HasEventsLeft (sys_of state self.old) }
-        requires some { IsSome (first (sys_of state self.old).pending) }
         requires tick { IfSome (first (sys_of state self.old).pending) (λ d. d.tick ≤ TOP) }
+
+        ensures event { IfOk result (λ o. option_map (λ f. f.due) o ≡ first (sys_of state self.old).pending) }
         ensures fired { sys_of state self.new ≡ (fire_first (sys_of state self.old)).sys }
-        ensures entries { entries_of self.new ≡ (fire_first (sys_of state self.old)).entries }
-        ensures console { OnOk result (Told (Appends (console_of (fire_first (sys_of state self.old)).entries))
-            (C.taken console.old) (C.taken console.new)) }
-        ensures cut { OnErr result (Told (AppendsFront (console_of (fire_first (sys_of state self.old)).entries))
-            (C.taken console.old) (C.taken console.new)) }
-        ensures byte { OnErr result (length (console_of (fire_first (sys_of state self.old)).entries) ≡ 1) }
-        ensures fault { IfErr result (λ f. (f ≡ RunFault.Console) × Rose (C.faults console.old) (C.faults console.new)) }
-        ensures count { C.faults console.old ≤ C.faults console.new }
+        ensures entries { MatchOption (first (sys_of state self.old).pending) (entries_of self.new ≡ entries_of self.old)
+            (λ d. entries_of self.new ≡ (fire_first (sys_of state self.old)).entries) }
+        ensures console { IfOk result (λ o. IfSome o (λ f. option_to_list f.console
+            ≡ console_of (fire_first (sys_of state self.old)).entries)) }
+        ensures replay { IsRunReplayed (sys_of state self.old) (fire_first (sys_of state self.old)) }
+        ensures named { named_of self.new ≡ named_of self.old }
+
+        // What the event writes was taken in order, or, where a sink failed, a front of it.
+        ensures emitted { EmitsInOrder (first_emissions (named_of self.old).parts (sys_of state self.old)) (is_ok result)
+            (sinks C.Sink R.Sink console.old report.old) (sinks C.Sink R.Sink console.new report.new) }
+        ensures cause { IfErr result (λ f. IsFaultOf f (C.faults console.old) (C.faults console.new)
+            (R.faults report.old) (R.faults report.new)) }
         ensures machine { IsMachine state self.new }
     {
-        let byte = self.fire().and_then(|fired| fired.console);
-        match byte {
-            Some(byte) => emit_byte(console, byte),
-            None => Ok(()),
+        match self.fire() {
+            None => Ok(None),
+            Some(fired) => {
+                self.write(&fired, console, report)?;
+                Ok(Some(fired))
+            }
         }
     }
 
@@ -195,14 +210,4 @@ impl Machine {
             Some(tick) => late_reason(g, events, tick.get()),
         }
     }
-}
-
-/// Hands the console a byte.
-fn emit_byte<C: Sink>(console: &mut C, byte: u8) -> Result<(), RunFault>
-    ensures console { OnOk result (Told (Appends (byte ∷ [])) (C.taken console.old) (C.taken console.new)) }
-    ensures cut { OnErr result (Told (AppendsFront (byte ∷ [])) (C.taken console.old) (C.taken console.new)) }
-    ensures fault { IfErr result (λ f. (f ≡ RunFault.Console) × Rose (C.faults console.old) (C.faults console.new)) }
-    ensures count { C.faults console.old ≤ C.faults console.new }
-{
-    console.emit(&[byte]).map_err(|_| RunFault::Console)
 }

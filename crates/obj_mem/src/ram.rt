@@ -90,8 +90,8 @@ impl Ram {
     {
         let first = at as usize;
         match from.len() {
-            4 => self.bytes[first..first + 4].copy_from_slice(from),
-            8 => self.bytes[first..first + 8].copy_from_slice(from),
+            4 => self.bytes[first..first + 4].copy_from_slice(&from[..4]),
+            8 => self.bytes[first..first + 8].copy_from_slice(&from[..8]),
             n => self.bytes[first..first + n].copy_from_slice(from),
         }
     }

@@ -1,17 +1,21 @@
 // How often what was noted.
-ghost use Rattle.std.specs.Prelude.{◌≡◌, ℕ, ◌+◌, ◌-◌, ◌^◌, ◌<◌, vec_len, IfOk};
+ghost use Rattle.std.specs.Prelude.{◌≡◌, ℕ, ◌+◌, ◌-◌, ◌^◌, ◌<◌, length, replicate, vec_len, IfOk};
+ghost use Rattle.cfg_tree.specs.Valid.{IsValidConfig};
 ghost use Rattle.gm_words.specs.Counts.{count_entry, count_access, one_more_at};
-ghost use Rattle.probe_stats.specs.Counted.{begun_at, IsBelowAt, IsAccessBelow, IsRaisedBelow};
+ghost use Rattle.probe_stats.specs.Counted.{begun_at, cleared_at, IsBelowAt, IsAccessBelow, IsRaisedBelow};
 
 use gc_base::{NoMemory, ObjId, Tick};
-use gm_words::Entry;
+use gm_words::{Config, Entry, Part, platform};
 use std::alloc::Global;
 use std::marker::Model;
 
+mod json;
+mod stats;
 #[cfg(test)]
 mod tests;
+mod trace;
 
-/// How often what was noted since a tick, of some objects each, and how many events there were.
+/// How often what was noted since a tick, of the parts of a machine each, and how many events there were.
 #[derive(Drop)]
 pub struct Counters {
     retired: u64,
@@ -26,10 +30,15 @@ pub struct Counters {
     refused: Vec<u64>,
     events: u64,
     since: Tick,
+    parts: Vec<Part>,
+    /// How many caches are configured.
+    caches: usize,
 }
 
 impl Model for Counters {
-    ghost use Rattle.probe_stats.specs.Counted.{Counted};
+    ghost use Rattle.std.specs.Prelude.{◌≡◌, ◌≤◌, length, map, All};
+    ghost use Rattle.gm_words.specs.Shown.{part_shown};
+    ghost use Rattle.probe_stats.specs.Counted.{Counted, HasShortPath};
 
     ghost Value = { Counted };
 
@@ -48,14 +57,24 @@ impl Model for Counters {
         events = c.events;
       };
       since = c.since;
+      parts = map part_shown c.parts.items;
+      caches = c.caches;
     } };
+
+    ghost invariant = { λ c. (c.caches ≤ 3) × All HasShortPath (map part_shown c.parts.items)
+        × (length c.hits.items ≡ length c.parts.items)
+        × (length c.misses.items ≡ length c.parts.items)
+        × (length c.refused.items ≡ length c.parts.items) };
 }
 
 impl Counters {
-    /// Counters of so many parts, all 0, since tick 0.
-    pub fn new(alloc: Global, parts: usize) -> Result<Counters, NoMemory>
-        ensures { IfOk result (λ t. t ≡ begun_at parts 0) }
+    /// The counters of a configuration's machine, all 0, since tick 0. No other call but `json` takes memory.
+    pub fn new(alloc: Global, c: &Config) -> Result<Counters, NoMemory>
+        requires { IsValidConfig c.now }
+        ensures { IfOk result (λ t. t ≡ begun_at c.now 0) }
     {
+        let rows = platform::parts(alloc, c)?;
+        let parts = rows.len();
         Ok(Counters {
             retired: 0,
             sleeps: 0,
@@ -69,7 +88,27 @@ impl Counters {
             refused: vec![in alloc; 0; parts]?,
             events: 0,
             since: start(),
+            parts: rows,
+            caches: c.caches.items().len(),
         })
+    }
+
+    /// Begins anew at a tick: all counters are 0.
+    pub fn clear(&mut self, now: Tick)
+        ensures { self.new ≡ cleared_at self.old now }
+    {
+        self.retired = 0;
+        self.sleeps = 0;
+        self.traps = 0;
+        self.device_reads = 0;
+        self.device_writes = 0;
+        self.ram_reads = 0;
+        self.ram_writes = 0;
+        forget(&mut self.hits);
+        forget(&mut self.misses);
+        forget(&mut self.refused);
+        self.events = 0;
+        self.since = now;
     }
 
     /// Counts an entry, where the counter that it raises is below 2^64 - 1.
@@ -136,10 +175,18 @@ fn start() -> Tick
     }
 }
 
+/// Makes all counts 0.
+fn forget(counts: &mut Vec<u64>)
+    ensures { counts.new.items ≡ replicate (length counts.old.items) 0 }
+{
+    counts.as_mut_slice().fill(0);
+}
+
 /// Counts one more of an object, if there is such a one.
 fn count_one(counts: &mut Vec<u64>, object: ObjId)
     requires { IsBelowAt (2 ^ 64 - 1) counts.old.items object.0 }
-    ensures { counts.new.items ≡ one_more_at counts.old.items object.0 }
+    ensures more { counts.new.items ≡ one_more_at counts.old.items object.0 }
+    ensures count { length counts.new.items ≡ length counts.old.items }
 {
     let place = object.0 as usize;
     if place < counts.len() {

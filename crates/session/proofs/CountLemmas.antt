@@ -9,14 +9,17 @@ use Rattle.gc_outside.specs.Faults.{CountsFaultIf}
 use Rattle.gc_outside.specs.Store.{is_failed}
 use Rattle.gc_outside.specs.declared.store.GetError.{GetError}
 use Rattle.gm_model.specs.ObjState.{ObjState}
+use Rattle.gm_model.specs.Sys.{Sys}
 use Rattle.rv_asm.specs.declared.fault.AsmFault.{AsmFault}
 use Rattle.rv_asm.specs.declared.fault.AsmFault.TheVariants as sources
 use Rattle.session.specs.Calls.{BuildStops}
 use Rattle.session.specs.Ending.{Ending, CountsFaults, is_store_failure}
 use Rattle.session.specs.Outside.{StoreSeen}
 use Rattle.session.specs.Refusals.{config_refusal, script_refusal, image_refusal, source_refusal}
+use Rattle.session.specs.Script.{ScriptComesTo}
 use Rattle.stop_script.specs.declared.script_fault.ScriptFault.{ScriptFault}
 use Rattle.stop_script.specs.declared.script_fault.ScriptFault.TheVariants as scripts
+use Rattle.stop_script.specs.declared.stop.Stop.{Stop}
 
 -- a get that failed, and one for which memory was not found
 pub get_counts : (e k : GetError) (a b : ℕ) → e ≡ k → CountsFaultIf (is_failed (Err e)) a b → CountsFaultIf (is_failed (Err k)) a b
@@ -59,3 +62,8 @@ counts_earlier e old mid new same h =
 pub build_counts : (e : Ending) (c : Config) (parts : List ObjState) (old new : StoreSeen) → BuildStops c parts e → new.faults ≡ old.faults → CountsFaults e old new
 build_counts e c parts old new (inl h) same = rw h same
 build_counts e c parts old new (inr h) same = rw h.2 same
+
+-- nor is a script
+pub stops_counts : (e : Ending) (c : Config) (s : Sys) (list : List Stop) (old new : StoreSeen) → ScriptComesTo c s list e → new.faults ≡ old.faults → CountsFaults e old new
+stops_counts e c s list old new (inl h) same = rw h same
+stops_counts e c s list old new (inr h) same = rw h.ending same

@@ -6,10 +6,11 @@ use Rattle.rv_asm.specs.declared.fault.AsmFault.{AsmFault}
 use Rattle.rv_asm.specs.declared.fault.AsmFault.TheVariants as sources
 use Rattle.session.specs.Calls.{FlatComesTo, RunComesTo, AssemblyComesTo, PutComesTo, ComesTo, EndsAs}
 use Rattle.session.specs.Codes.{code_of}
-use Rattle.session.specs.Emissions.{Emission}
+use Rattle.gc_outside.specs.Emissions.{Emission}
 use Rattle.session.specs.Ending.{Ending, CountsFaults, EndsBy, Leaves, StopsBy, StoreCounts, is_store_failure, usage_refusal}
 use Rattle.session.specs.Inputs.{SourceStops}
-use Rattle.session.specs.Outside.{StoreSeen, SameStore, OnlyReads, SinkSeen, Sinks, Outside}
+use Rattle.gc_outside.specs.Sinks.{SinkSeen, Sinks}
+use Rattle.session.specs.Outside.{StoreSeen, SameStore, OnlyReads, Outside}
 use Rattle.session.specs.Puts.{ProgramPuts, AssemblyPuts, RequestPuts, Puts}
 use Rattle.session.specs.Refusals.{source_refusal}
 use Rattle.session.specs.Words.{FlatRequest, RunRequest, AssemblyRequest, Request, Flat, Machine, flat_request, run_request, assembly_request, any_request, request_of}

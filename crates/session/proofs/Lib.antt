@@ -7,6 +7,7 @@ pub mod StepLemmas
 pub mod PutLemmas
 pub mod SourceLemmas
 pub mod StopLemmas
+pub mod StatLemmas
 pub mod ScriptLemmas
 pub mod EndsLemmas
 pub mod ImageLemmas

@@ -1,45 +1,34 @@
 -- What a machine has written while it carries out a script.
-use Rattle.std.proofs.Common.{◌≡◌, ℕ, suc, zero, ◌+◌, ◌-◌, ◌<◌, ◌≤◌, ◌⊎◌, inl, inr, ◌++◌, refl, sym, ◌∙◌, ap, subst, arith, add-one, append_assoc, append-nil, List, [], ◌∷◌, length, drop, get_or, Option, Some, None, IsSome, Bool, true, false}
+use Rattle.std.proofs.Common.{◌≡◌, ℕ, suc, zero, ◌+◌, ◌-◌, ◌<◌, ◌≤◌, ◌⊎◌, inl, inr, ◌++◌, refl, sym, ◌∙◌, ap, subst, arith, add-one, append_assoc, append-nil, List, [], ◌∷◌, length, drop, take, get_or, Option, Some, None, IsSome, Bool, true, false}
+use Rattle.std.specs.Prelude.{IfErr, OnOk, Result, Ok, Err, is_ok}
 use Rattle.std.proofs.Math.ListN.{drop_of_length-le}
-use Rattle.std.proofs.Math.Seq.{drop-cons}
+use Rattle.std.proofs.Math.Seq.{drop-cons, take-add}
 use Rattle.std.proofs.lemmas.Bool.{cases_lt}
-use Rattle.gc_outside.specs.Told.{Told}
+use Rattle.std.proofs.lemmas.List.{take-append-drop}
+use Rattle.cfg_tree.specs.declared.config.Config.{Config}
 use Rattle.gc_outside.specs.Emits.{Emits}
-use Rattle.gc_outside.specs.Sink.{Appends, AppendsFront}
-use Rattle.gc_outside.proofs.Outputs.{told_front_of_more}
 use Rattle.ev_queue.specs.declared.due.Due.{Due}
 use Rattle.ev_queue.specs.PendingList.{first}
 use Rattle.gm_model.specs.Sys.{Sys}
-use Rattle.gm_model.specs.Fire.{Ran, fire_first, fire_due, timed_run}
+use Rattle.gm_model.specs.Fire.{fire_first, fire_due, timed_run}
 use Rattle.gm_model.specs.Run.{RunEnd, EndsRun, run_to, retired_in}
-use Rattle.gm_words.specs.Entries.{console_of}
-use Rattle.gm_words.specs.declared.entry.Entry.{Entry}
+use Rattle.gm_words.specs.Platform.{Part, platform}
 use Rattle.gm_words.specs.declared.goal.Goal.{Goal}
-use Rattle.gm_system.proofs.ForKernel.{console_more}
 use Rattle.gm_model.proofs.RunEnds.{runs_end, budget_ends}
-use Rattle.kernel.proofs.Runs.{events_more, stopped_bytes}
-use Rattle.kernel.specs.Ends.{StopsAtByte, TellsEnd, IsFaultOf}
+use Rattle.kernel.proofs.Runs.{events_more}
+use Rattle.kernel.specs.Emitted.{run_emissions}
+use Rattle.kernel.specs.Ends.{TellsEnd}
+use Rattle.kernel.specs.Input.{input_given}
 use Rattle.kernel.specs.declared.run_end.RunEnd.{RunEnd as ToldEnd}
-use Rattle.kernel.specs.declared.run_end.RunFault.{RunFault}
-use Rattle.kernel.specs.declared.run_end.RunFault.TheVariants as faults
-use Rattle.session.specs.Emissions.{Emission, ToConsole, ToReport, SinkFailed, EmitsInOrder}
-use Rattle.session.specs.Outside.{SinkSeen, Sinks}
-use Rattle.session.proofs.EmissionLemmas.{front_console, front_more, order_nothing, order_then, order_cut, order_console, order_report}
-use Rattle.session.specs.Script.{Written, run_line, run_written, then_written, stop_written, script_written}
+use Rattle.gc_outside.specs.Emissions.{Emission, ToReport, EmitsInOrder}
+use Rattle.gc_outside.specs.Sinks.{SinkSeen, Sinks}
+use Rattle.gc_outside.proofs.InOrder.{order_nothing, order_then, order_cut, order_report}
+use Rattle.session.specs.Ending.{Ending, Leaves, LeavesInOrder, memory_refusal, work_done}
+use Rattle.session.specs.Script.{Written, run_line, run_written, silent, then_written, stop_written, script_written, ScriptComesTo, StopFails}
+use Rattle.session.specs.declared.status.Status.{Status}
+use Rattle.session.specs.declared.status.Status.TheVariants as status
 use Rattle.stop_script.specs.declared.stop.Stop.{Stop}
-
--- a run of fewer events notes a front of what one of more events notes
-pub noted_front : (s : Sys) (k d : ℕ) → (more : List Entry) × ((timed_run s (k + d)).entries ≡ (timed_run s k).entries ++ more)
-unfolding timed_run
-noted_front s k zero = ([], (let P : ℕ → Type 0 = λ n. (timed_run s n).entries ≡ (timed_run s k).entries ++ [] in let same : k ≡ k + 0 = omega arith in subst P same (sym (append-nil (timed_run s k).entries))))
-noted_front s k (suc d) =
-    let before = noted_front s k d in
-    let r : Ran = timed_run s (k + d) in
-    let P : ℕ → Type 0 = λ n. (timed_run s n).entries ≡ (timed_run s k).entries ++ (before.0 ++ (fire_first r.sys).entries) in
-    let same : suc (k + d) ≡ k + suc d = omega arith in (
-      before.0 ++ (fire_first r.sys).entries,
-      subst P same (ap (λ es. es ++ (fire_first r.sys).entries) before.1 ∙ append_assoc (timed_run s k).entries before.0 (fire_first r.sys).entries),
-    )
+use Rattle.stop_script.specs.declared.stop.Stop.TheVariants as stops
 
 -- an event counts one at most
 event_up : (s : Sys) → (fire_first s).sys.counts.events ≤ s.counts.events + 1
@@ -68,107 +57,147 @@ run_counts s g =
     let e = runs_end.run s g in
     omega (arith, ap (λ r. r.sys.counts.events) e.ran, events_up s (run_to s g).events, events_within s g (run_to s g) e)
 
--- where the console failed within a run, it has a front of the run's bytes
-pub stopped_front : (s : Sys) (g : Goal) (t : Sys) (noted : List Entry) (a b : Option (List ℕ)) → StopsAtByte s g t noted a b → Told (AppendsFront (console_of (run_to s g).ran.entries)) a b
-stopped_front s g t noted a b h =
-    let e = runs_end.run s g in
-    let k : ℕ = suc h.before in
-    let d : ℕ = (run_to s g).events - k in
-    let more = noted_front s k d in
-    let P : ℕ → Type 0 = λ n. (timed_run s n).entries ≡ (timed_run s k).entries ++ more.0 in
-    let same : k + d ≡ (run_to s g).events = omega (arith, h.within) in
-    let all : (run_to s g).ran.entries ≡ (timed_run s k).entries ++ more.0 = ap (λ r. r.entries) e.ran ∙ subst P same more.1 in
-    let bytes : console_of (run_to s g).ran.entries ≡ console_of (timed_run s k).entries ++ console_of more.0 = ap console_of all ∙ console_more (timed_run s k).entries more.0 in
-    let Q : List ℕ → Type 0 = λ xs. Told (AppendsFront xs) a b in
-    subst Q (sym bytes) (told_front_of_more (console_of (timed_run s k).entries) (console_of more.0) a b (stopped_bytes s g t noted a b h))
-
--- so far these stops were carried out
-pub record HasDone (budget : ℕ) (start : Sys) (stops : List Stop) (i : ℕ) (now : Sys) (old new : Sinks) : Type 0 where
-  pub done : Written
-  pub same : script_written budget start stops ≡ then_written done (script_written budget now (drop i stops))
-  pub emitted : EmitsInOrder done.emissions true old new
+-- input counts nothing
+pub input_counts : (bytes : List ℕ) (s : Sys) → (input_given bytes s).counts ≡ s.counts
+input_counts [] s = refl
+input_counts (b ∷ bytes) s = input_counts bytes _
 
 then_assoc : (a b c : Written) → then_written (then_written a b) c ≡ then_written a (then_written b c)
 then_assoc a b c = rw (append_assoc a.emissions b.emissions c.emissions, append_assoc a.history b.history c.history) refl
 
-module _ (budget : ℕ) (start : Sys) (stops : List Stop) (old : Sinks) where
-  pub done_start : HasDone budget start stops 0 start old old
-  done_start = record {
-    done = record { sys = start; emissions = []; history = [] };
-    same = refl;
-    emitted = order_nothing old;
-  }
+-- a script in two parts, and of one stop
+script_append : (c : Config) (s : Sys) (xs ys : List Stop) → script_written c s (xs ++ ys) ≡ then_written (script_written c s xs) (script_written c (script_written c s xs).sys ys)
+unfolding script_written
+script_append c s [] ys = refl
+script_append c s (x ∷ xs) ys =
+    let a : Written = stop_written c s x in
+    ap (λ w. then_written a w) (script_append c a.sys xs ys)
+    ∙ sym (then_assoc a (script_written c a.sys xs) (script_written c (script_written c a.sys xs).sys ys))
 
-  module _ (i : ℕ) (now : Sys) (x d : Stop) (mid : Sinks) (here : i < length stops) (is : x ≡ get_or stops i d) (h : HasDone budget start stops i now old mid) where
-    next : drop i stops ≡ x ∷ drop (i + 1) stops
-    next = rw add-one (drop-cons stops i d here ∙ ap (λ y. y ∷ drop (suc i) stops) (sym is))
+script_one : (c : Config) (s : Sys) (x : Stop) → script_written c s (x ∷ []) ≡ stop_written c s x
+unfolding script_written
+script_one c s x = rw (append-nil (stop_written c s x).emissions, append-nil (stop_written c s x).history) refl
 
-    split : script_written budget start stops ≡ then_written h.done (then_written (stop_written budget now x) (script_written budget (stop_written budget now x).sys (drop (i + 1) stops)))
+-- so far these stops were carried out
+pub record HasDone (c : Config) (start : Sys) (list : List Stop) (i : ℕ) (now : Sys) (old new : Sinks) : Type 0 where
+  pub at : now ≡ (script_written c start (take i list)).sys
+  pub emitted : EmitsInOrder (script_written c start (take i list)).emissions true old new
+
+module _ (c : Config) (start : Sys) (list : List Stop) (old : Sinks) where
+  pub done_start : HasDone c start list 0 start old old
+  unfolding script_written
+  done_start = record { at = refl; emitted = order_nothing old }
+
+  module _ (i : ℕ) (now : Sys) (x d : Stop) (mid : Sinks) (here : i < length list) (is : x ≡ get_or list i d) (h : HasDone c start list i now old mid) where
+    next : drop i list ≡ x ∷ drop (i + 1) list
+    next = rw add-one (drop-cons list i d here ∙ ap (λ y. y ∷ drop (suc i) list) (sym is))
+
+    whole : list ≡ take i list ++ x ∷ drop (i + 1) list
+    whole = sym (take-append-drop i list) ∙ ap (λ ys. take i list ++ ys) next
+
+    front : take (i + 1) list ≡ take i list ++ x ∷ []
+    front = take-add i 1 list ∙ ap (λ ys. take i list ++ take 1 ys) next
+
+    one_more : script_written c start (take (i + 1) list) ≡ then_written (script_written c start (take i list)) (stop_written c now x)
+    one_more =
+        ap (λ xs. script_written c start xs) front
+        ∙ (script_append c start (take i list) (x ∷ [])
+        ∙ (ap (λ s. then_written (script_written c start (take i list)) (script_written c s (x ∷ []))) (sym h.at)
+        ∙ ap (λ w. then_written (script_written c start (take i list)) w) (script_one c now x)))
+
+    pub done_more : (now' : Sys) (new : Sinks) → now' ≡ (stop_written c now x).sys → EmitsInOrder (stop_written c now x).emissions true mid new
+        → HasDone c start list (i + 1) now' old new
+    done_more now' new e k =
+        let P : List Emission → Type 0 = λ es. EmitsInOrder es true old new in record {
+          at = e ∙ sym (ap (λ w. w.sys) one_more);
+          emitted = subst P (sym (ap (λ w. w.emissions) one_more))
+              (order_then (script_written c start (take i list)).emissions (stop_written c now x).emissions true old mid new h.emitted k);
+        }
+
+    split : script_written c start list
+        ≡ then_written (script_written c start (take i list)) (then_written (stop_written c now x) (script_written c (stop_written c now x).sys (drop (i + 1) list)))
     unfolding script_written
-    split = (let P : List Stop → Type 0 = λ ys. script_written budget start stops ≡ then_written h.done (script_written budget now ys) in subst P next h.same)
+    split =
+        ap (λ xs. script_written c start xs) whole
+        ∙ (script_append c start (take i list) (x ∷ drop (i + 1) list)
+        ∙ ap (λ s. then_written (script_written c start (take i list)) (script_written c s (x ∷ drop (i + 1) list))) (sym h.at))
 
-    pub done_more : (now' : Sys) (new : Sinks) → now' ≡ (stop_written budget now x).sys → EmitsInOrder (stop_written budget now x).emissions true mid new
-        → HasDone budget start stops (i + 1) now' old new
-    done_more now' new e k = record {
-      done = then_written h.done (stop_written budget now x);
-      same = rw e (split ∙ sym (then_assoc h.done (stop_written budget now x) (script_written budget (stop_written budget now x).sys (drop (i + 1) stops))));
-      emitted = order_then h.done.emissions (stop_written budget now x).emissions true old mid new h.emitted k;
-    }
-
-    pub done_cut : (new : Sinks) → EmitsInOrder (stop_written budget now x).emissions false mid new → EmitsInOrder (script_written budget start stops).emissions false old new
+    done_cut : (new : Sinks) → EmitsInOrder (stop_written c now x).emissions false mid new → EmitsInOrder (script_written c start list).emissions false old new
     done_cut new k =
-        let rest : Written = script_written budget (stop_written budget now x).sys (drop (i + 1) stops) in
+        let rest : Written = script_written c (stop_written c now x).sys (drop (i + 1) list) in
         let P : List Emission → Type 0 = λ es. EmitsInOrder es false old new in
         subst P (sym (ap (λ w. w.emissions) split))
-        (order_then h.done.emissions ((stop_written budget now x).emissions ++ rest.emissions) false old mid new h.emitted
-        (order_cut (stop_written budget now x).emissions rest.emissions mid new k))
+        (order_then (script_written c start (take i list)).emissions ((stop_written c now x).emissions ++ rest.emissions) false old mid new h.emitted
+        (order_cut (stop_written c now x).emissions rest.emissions mid new k))
 
-  pub done_all : (i : ℕ) (now : Sys) (new : Sinks) → length stops ≤ i → HasDone budget start stops i now old new → EmitsInOrder (script_written budget start stops).emissions true old new
-  unfolding script_written
+    -- the stop failed
+    pub done_fails : (answer : Status) (new : Sinks) → StopFails c now x answer mid new → (e : Ending) × ScriptComesTo c start list e × Leaves e answer old new
+    done_fails answer new (inl k) =
+        let cut = done_cut new k.1 in (work_done (script_written c start list).emissions, inl refl, inr (k.0, cut.cause refl, cut.front refl))
+    done_fails answer new (inr k) =
+        let before : List Emission = (script_written c start (take i list)).emissions in
+        let e : Ending = record { status = status.Memory; emissions = before ++ memory_refusal.emissions } in
+        let place : list ≡ take i list ++ stops.StatsJson ∷ drop (i + 1) list = whole ∙ ap (λ y. take i list ++ y ∷ drop (i + 1) list) k.0 in
+        (e, inr (record { before = take i list; later = drop (i + 1) list; place = place; ending = refl }), by_said k.1) where
+          by_said : LeavesInOrder memory_refusal answer mid new
+              → Leaves (record { status = status.Memory; emissions = (script_written c start (take i list)).emissions ++ memory_refusal.emissions }) answer old new
+          by_said (inl l) = inl (l.0, (order_then (script_written c start (take i list)).emissions memory_refusal.emissions true old mid new h.emitted l.1).all refl)
+          by_said (inr l) =
+              let cut = order_then (script_written c start (take i list)).emissions memory_refusal.emissions false old mid new h.emitted l.1 in inr (l.0, cut.cause refl, cut.front refl)
+
+  pub done_all : (i : ℕ) (now : Sys) (new : Sinks) → length list ≤ i → HasDone c start list i now old new → (e : Ending) × ScriptComesTo c start list e × Leaves e status.Done old new
   done_all i now new l h =
-      let P : List Stop → Type 0 = λ ys. script_written budget start stops ≡ then_written h.done (script_written budget now ys) in
-      let all = subst P (drop_of_length-le stops l) h.same in
-      let Q : List Emission → Type 0 = λ es. EmitsInOrder es true old new in
-      subst Q (sym (ap (λ w. w.emissions) all ∙ append-nil h.done.emissions)) h.emitted
+      let P : List Stop → Type 0 = λ ys. EmitsInOrder (script_written c start ys).emissions true old new in
+      let whole : take i list ≡ list = sym (append-nil (take i list)) ∙ (ap (λ ys. take i list ++ ys) (sym (drop_of_length-le list l)) ∙ take-append-drop i list) in
+      let all = subst P whole h.emitted in
+      (work_done (script_written c start list).emissions, inl refl, inl (refl, all.all refl))
 
 -- the line of a run, as it is told
 pub run_text : (told : ToldEnd) (r : RunEnd) (tick : ℕ) → TellsEnd told r → tick ≡ r.ran.sys.tick
     → run_line told.reason tick told.insts told.events ≡ run_line r.reason r.ran.sys.tick (retired_in r.ran.entries) r.events
 run_text told r tick e t = rw (e.reason, t, e.insts, e.events) refl
 
--- a run that ended: the console took its bytes, and its line is emitted
-pub ran_emits : (r : RunEnd) (text : List ℕ) (ok : Bool) (c c' s s' s'' : SinkSeen) → text ≡ run_line r.reason r.ran.sys.tick (retired_in r.ran.entries) r.events
-    → Told (Appends (console_of r.ran.entries)) c.taken c'.taken → c.faults ≤ c'.faults → s' ≡ s
-    → Emits text ok s'.taken s''.taken s'.faults s''.faults
-    → EmitsInOrder (run_written r).emissions ok (record { console = c; report = s }) (record { console = c'; report = s'' })
-ran_emits r text ok c c' s s' s'' t took count same said =
-    let bytes : Emits (console_of r.ran.entries) true c.taken c'.taken c.faults c'.faults = record {
-      whole = λ e. took;
-      front = λ e. absurd (cc);
-      cause = λ e. absurd (cc);
-      count = count;
-    } in
-    let P : SinkSeen → Type 0 = λ x. Emits text ok x.taken s''.taken x.faults s''.faults in
-    let Q : List ℕ → Type 0 = λ l. Emits l ok s.taken s''.taken s.faults s''.faults in
-    order_then (ToConsole (console_of r.ran.entries) ∷ []) (ToReport (run_line r.reason r.ran.sys.tick (retired_in r.ran.entries) r.events) ∷ []) ok _ _ _
-    (order_console (console_of r.ran.entries) true c c' bytes s) (order_report _ ok s s'' (subst Q t (subst P same said)) c')
+-- a run that ended: what its events write was taken, and its line is emitted
+pub ran_emits : (c : Config) (s : Sys) (g : Goal) (parts : List Part) (text : List ℕ) (ok : Bool) (old mid : Sinks) (new : SinkSeen) → parts ≡ platform c
+    → (let r : RunEnd = run_to s g in text ≡ run_line r.reason r.ran.sys.tick (retired_in r.ran.entries) r.events)
+    → EmitsInOrder (run_emissions parts s g) true old mid → Emits text ok mid.report.taken new.taken mid.report.faults new.faults
+    → EmitsInOrder (run_written c s g).emissions ok old (record { console = mid.console; report = new })
+ran_emits c s g parts text ok old mid new p t h said =
+    let P : List Part → Type 0 = λ ps. EmitsInOrder (run_emissions ps s g) true old mid in
+    let Q : List ℕ → Type 0 = λ l. EmitsInOrder (ToReport l ∷ []) ok mid (record { console = mid.console; report = new }) in
+    order_then (run_emissions (platform c) s g) _ ok old mid _ (subst P p h) (subst Q t (order_report text ok mid.report new said mid.console))
 
-failed_by : (f : RunFault) (old new : Sinks) → IsFaultOf f old.console.faults new.console.faults old.report.faults new.report.faults → SinkFailed old new
-failed_by faults.Console old new h = inl h
-failed_by faults.Report old new h = inr h
+-- a run in which a sink failed
+pub cut_emits : (c : Config) (s : Sys) (g : Goal) (parts : List Part) (old new : Sinks) → parts ≡ platform c → EmitsInOrder (run_emissions parts s g) false old new
+    → EmitsInOrder (run_written c s g).emissions false old new
+cut_emits c s g parts old new p h =
+    let P : List Part → Type 0 = λ ps. EmitsInOrder (run_emissions ps s g) false old new in
+    order_cut (run_emissions (platform c) s g) _ old new (subst P p h)
 
--- a run in which the console failed: it took a front of the run's bytes, and the report nothing
-pub cut_emits : (r : RunEnd) (f : RunFault) (c c' s s' : SinkSeen) → Told (AppendsFront (console_of r.ran.entries)) c.taken c'.taken
-    → IsFaultOf f c.faults c'.faults s.faults s'.faults → c.faults ≤ c'.faults → s' ≡ s
-    → EmitsInOrder (run_written r).emissions false (record { console = c; report = s }) (record { console = c'; report = s' })
-cut_emits r f c c' s s' front cause count same =
-    let P : SinkSeen → Type 0 = λ x. IsFaultOf f c.faults c'.faults s.faults x.faults in
-    let k : EmitsInOrder (run_written r).emissions false (record { console = c; report = s }) (record { console = c'; report = s }) = record {
-      all = λ e. absurd (cc);
-      front = λ e. front_more (ToConsole (console_of r.ran.entries) ∷ []) _ (record { console = c; report = s }) (record { console = c'; report = s }) (front_console (console_of r.ran.entries) c c' front s);
-      cause = λ e. failed_by f (record { console = c; report = s }) (record { console = c'; report = s }) (subst P same cause);
-      console_count = count;
-      report_count = omega arith;
-    } in
-    let Q : SinkSeen → Type 0 = λ x. EmitsInOrder (run_written r).emissions false (record { console = c; report = s }) (record { console = c'; report = x }) in
-    subst Q (sym same) k
+-- a stop that emits
+module _ {F : Type 0} (r : Result (Unit {0}) Status) (done : Result (Unit {0}) F) (same : is_ok r ≡ is_ok done) where
+  pub or_kept : (A : Type 0) → OnOk done A → OnOk r A
+  or_kept A h = by r done same h where
+    by : (q : Result (Unit {0}) Status) (e : Result (Unit {0}) F) → is_ok q ≡ is_ok e → OnOk e A → OnOk q A
+    by (Ok u) (Ok v) m k = k
+    by (Ok u) (Err f) m k = cc
+    by (Err s) e m k = tt
+
+  pub or_true : (A : Type 0) → A → OnOk r A
+  or_true A a = by r where
+    by : (q : Result (Unit {0}) Status) → OnOk q A
+    by (Ok u) = a
+    by (Err s) = tt
+
+  pub or_emitted : (es : List Emission) (old new : Sinks) → EmitsInOrder es (is_ok done) old new → OnOk r (EmitsInOrder es true old new)
+  or_emitted es old new h = by r same where
+    by : (q : Result (Unit {0}) Status) → is_ok q ≡ is_ok done → OnOk q (EmitsInOrder es true old new)
+    by (Ok u) m = let P : Bool → Type 0 = λ b. EmitsInOrder es b old new in subst P (sym m) h
+    by (Err s) m = tt
+
+  pub or_fails : (c : Config) (s : Sys) (x : Stop) (old new : Sinks) → EmitsInOrder (stop_written c s x).emissions (is_ok done) old new → IfErr r (λ q. q ≡ status.Sink)
+      → IfErr r (λ q. StopFails c s x q old new)
+  or_fails c s x old new h k = by r same k where
+    by : (q : Result (Unit {0}) Status) → is_ok q ≡ is_ok done → IfErr q (λ e. e ≡ status.Sink) → IfErr q (λ e. StopFails c s x e old new)
+    by (Ok u) m l = tt
+    by (Err e) m l = let P : Bool → Type 0 = λ b. EmitsInOrder (stop_written c s x).emissions b old new in inl (l, subst P (sym m) h)

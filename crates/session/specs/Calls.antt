@@ -16,7 +16,7 @@ use Rattle.session.specs.Fetched.{Then}
 use Rattle.session.specs.Refusals.{part_refusal}
 use Rattle.session.specs.Report.{flat_emissions}
 use Rattle.session.specs.Run.{flat_size, flat_start}
-use Rattle.session.specs.Script.{script_written, machine_start}
+use Rattle.session.specs.Script.{ScriptComesTo, machine_start}
 use Rattle.session.specs.Words.{Request, Flat, Machine, Assembly, FlatRequest, RunRequest, AssemblyRequest, request_of}
 use Rattle.session.specs.declared.status.Status.{Status}
 use Rattle.stop_script.specs.declared.stop.Stop.{Stop}
@@ -31,11 +31,11 @@ FlatComesTo q old new e =
 abbrev pub BuildStops : Config → List ObjState → Ending → Type 0
 BuildStops c parts e = (e ≡ memory_refusal) ⊎ ((kind : Kind) × (lacking c parts ≡ Some kind) × (e ≡ part_refusal kind))
 
--- the machine is built, and carries out the stops with the image in it
+-- the machine is built, and carries out the stops with the image in it, if there is memory for those that take some
 abbrev pub MachineComesTo : Config → List Stop → Image → List ObjState → Ending → Type 0
 MachineComesTo c stops image parts e =
     BuildStops c parts e
-    ⊎ ((lacking c parts ≡ None) × (e ≡ work_done (script_written c.system_budget (machine_start c image) stops).emissions))
+    ⊎ ((lacking c parts ≡ None) × ScriptComesTo c (machine_start c image) stops e)
 
 -- `run`: the configuration is had, then the script, then the image, and the machine carries out the script
 abbrev pub RunComesTo : RunRequest → List ObjState → StoreSeen → StoreSeen → Ending → Type 0

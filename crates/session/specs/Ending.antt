@@ -1,9 +1,10 @@
 -- How a call ends. Source: this project's own rule.
 use Rattle.std.specs.Prelude.{◌≡◌, ℕ, ◌⊎◌, Bool, true, false, List, [], ◌∷◌, ◌++◌, Result, Ok, Err, codes}
 use Rattle.gc_outside.specs.Faults.{CountsFaultIf}
-use Rattle.session.specs.Emissions.{Emission, ToReport, TakesAll, TakesFront, SinkFailed}
+use Rattle.gc_outside.specs.Emissions.{Emission, ToReport, TakesAll, TakesFront, SinkFailed, EmitsInOrder}
 use Rattle.session.specs.Names.{shown_name}
-use Rattle.session.specs.Outside.{SinkSeen, StoreSeen, Sinks, Outside}
+use Rattle.gc_outside.specs.Sinks.{SinkSeen, Sinks}
+use Rattle.session.specs.Outside.{StoreSeen, Outside}
 use Rattle.session.specs.declared.status.Status.{Status}
 use Rattle.session.specs.declared.status.Status.TheVariants as status
 
@@ -65,6 +66,16 @@ Leaves e s old new =
 abbrev pub Refuses : Ending → Status → SinkSeen → SinkSeen → Type 0
 Refuses e s old new = (console : SinkSeen)
     → Leaves e s (record { console = console; report = old }) (record { console = console; report = new })
+
+-- the same of a step among others, with what the sinks count
+abbrev pub LeavesInOrder : Ending → Status → Sinks → Sinks → Type 0
+LeavesInOrder e s old new =
+    ((s ≡ e.status) × EmitsInOrder e.emissions true old new) ⊎ ((s ≡ status.Sink) × EmitsInOrder e.emissions false old new)
+
+-- it was said that memory was not found, as far as the report took it
+abbrev pub SaysMemory : Status → SinkSeen → SinkSeen → Type 0
+SaysMemory s old new = (console : SinkSeen)
+    → LeavesInOrder memory_refusal s (record { console = console; report = old }) (record { console = console; report = new })
 
 -- a step comes to one of these endings, and says so
 abbrev pub StopsWith : (Ending → Type 0) → Status → SinkSeen → SinkSeen → Type 0

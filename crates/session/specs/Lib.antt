@@ -2,7 +2,6 @@ pub mod Names
 pub mod Registers
 pub mod Words
 pub mod Outside
-pub mod Emissions
 pub mod Ending
 pub mod Fetched
 pub mod Refusals

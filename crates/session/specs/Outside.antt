@@ -1,6 +1,7 @@
 -- What a store and two sinks tell at one moment. Source: this project's own rule.
 use Rattle.std.specs.Prelude.{◌≡◌, ℕ, ◌≤◌, List, Option}
 use Rattle.gc_outside.specs.Faults.{Rose}
+use Rattle.gc_outside.specs.Sinks.{Sinks, sinks}
 use Rattle.gc_outside.specs.Store.{Files}
 use Rattle.gc_outside.specs.declared.sink.Sink.{Ghosts as SinkGhosts}
 use Rattle.gc_outside.specs.declared.store.Store.{Ghosts as StoreGhosts}
@@ -11,16 +12,6 @@ pub record StoreSeen : Type 0 where
   pub open_put : Option (List ℕ)
   pub faults : ℕ
 
--- a sink: what it has taken, where it tells that, and how many of its calls failed
-pub record SinkSeen : Type 0 where
-  pub taken : Option (List ℕ)
-  pub faults : ℕ
-
--- the two sinks
-pub record Sinks : Type 0 where
-  pub console : SinkSeen
-  pub report : SinkSeen
-
 -- all that a call of the program works with
 pub record Outside : Type 0 where
   pub store : StoreSeen
@@ -28,12 +19,6 @@ pub record Outside : Type 0 where
 
 abbrev pub store_seen : {S : Type 0} → StoreGhosts S → S → StoreSeen
 store_seen g store = record { files = g.files store; open_put = g.open_put store; faults = g.faults store }
-
-abbrev pub sink_seen : {K : Type 0} → SinkGhosts K → K → SinkSeen
-sink_seen g sink = record { taken = g.taken sink; faults = g.faults sink }
-
-abbrev pub sinks : {C R : Type 0} → SinkGhosts C → SinkGhosts R → C → R → Sinks
-sinks c r console report = record { console = sink_seen c console; report = sink_seen r report }
 
 abbrev pub outside : {S C R : Type 0} → StoreGhosts S → SinkGhosts C → SinkGhosts R → S → C → R → Outside
 outside s c r store console report = record { store = store_seen s store; sinks = sinks c r console report }

@@ -23,7 +23,7 @@ IsReplayedFrom start w = replay start.routes (program_state start []) w.history 
 abbrev pub ScriptsAreReplayed : Type 0
 ScriptsAreReplayed =
     (c : Config) (image : Image) (stops : List Stop) → IsValidConfig c → c.system_model ≡ false → All (LiesInRam c.system_ram) image.pieces
-    → IsReplayedFrom (machine_start c image) (script_written c.system_budget (machine_start c image) stops)
+    → IsReplayedFrom (machine_start c image) (script_written c (machine_start c image) stops)
 
 -- the words name a configuration, a script and an image in these files, and the parts make a machine
 pub record CarriesOut (words : List (List ℕ)) (files : Option Files) (parts : List ObjState) (c : Config)
@@ -39,4 +39,4 @@ pub record CarriesOut (words : List (List ℕ)) (files : Option Files) (parts : 
 abbrev pub ReplaysScript : List (List ℕ) → Option Files → List ObjState → Type 0
 ReplaysScript words files parts =
     (c : Config) (stops : List Stop) (image : Image) → CarriesOut words files parts c stops image
-    → IsReplayedFrom (machine_start c image) (script_written c.system_budget (machine_start c image) stops)
+    → IsReplayedFrom (machine_start c image) (script_written c (machine_start c image) stops)

@@ -2,7 +2,7 @@
 use Rattle.std.specs.Prelude.{List, ℕ, [], ◌∷◌, ◌++◌, codes, decimal}
 use Rattle.rv_step.specs.Run.{FlatState, FlatReason, flat_reason}
 use Rattle.rv_step.specs.Run as run
-use Rattle.session.specs.Emissions.{Emission, ToConsole, ToReport}
+use Rattle.gc_outside.specs.Emissions.{Emission, ToConsole, ToReport}
 use Rattle.session.specs.Registers.{register_lines}
 
 -- why the run ended

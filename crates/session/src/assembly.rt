@@ -8,7 +8,8 @@ ghost use Rattle.session.specs.Calls.{AssemblyComesTo, PutComesTo};
 ghost use Rattle.session.specs.Ending.{StopsBy, status_of};
 ghost use Rattle.session.specs.Inputs.{HasProgram, SourceStops};
 ghost use Rattle.session.specs.Named.{assembly_named};
-ghost use Rattle.session.specs.Outside.{OnlyReads, sink_seen, store_seen};
+ghost use Rattle.gc_outside.specs.Sinks.{sink_seen};
+ghost use Rattle.session.specs.Outside.{OnlyReads, store_seen};
 ghost use Rattle.session.specs.Puts.{IsPutInPart};
 ghost use Rattle.session.specs.Sources.{line_of_byte, source_words};
 

@@ -3,7 +3,8 @@ ghost use Rattle.std.specs.Prelude.{◌≡◌, ◌%◌, All, OnOk, IfOk, IfErr};
 ghost use Rattle.elf_image.specs.Image.{LiesInRam};
 ghost use Rattle.session.specs.Ending.{StopsBy};
 ghost use Rattle.session.specs.Inputs.{HasImage, ImageStops};
-ghost use Rattle.session.specs.Outside.{OnlyReads, sink_seen, store_seen};
+ghost use Rattle.gc_outside.specs.Sinks.{sink_seen};
+ghost use Rattle.session.specs.Outside.{OnlyReads, store_seen};
 ghost use Rattle.session.specs.Fetched.{FileStops, HasFile};
 
 use crate::lines::{refuse, refuse_file, refuse_image};

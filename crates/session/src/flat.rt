@@ -3,10 +3,11 @@ ghost use Rattle.std.specs.Prelude.{◌≡◌, [], All, is_ok, OnOk, IfOk, IfErr
 ghost use Rattle.elf_image.specs.Image.{LiesInRam};
 ghost use Rattle.rv_step.specs.Run.{flat_run};
 ghost use Rattle.session.specs.Calls.{FlatComesTo};
-ghost use Rattle.session.specs.Emissions.{EmitsInOrder};
+ghost use Rattle.gc_outside.specs.Emissions.{EmitsInOrder};
 ghost use Rattle.session.specs.Ending.{EndsBy, Refuses, memory_refusal, status_of};
 ghost use Rattle.session.specs.Named.{flat_named};
-ghost use Rattle.session.specs.Outside.{OnlyReads, outside, sink_seen, sinks, store_seen};
+ghost use Rattle.gc_outside.specs.Sinks.{sink_seen, sinks};
+ghost use Rattle.session.specs.Outside.{OnlyReads, outside, store_seen};
 ghost use Rattle.session.specs.Report.{flat_emissions};
 ghost use Rattle.session.specs.Run.{flat_start, state_with};
 

@@ -3,7 +3,7 @@ ghost use Rattle.std.specs.Prelude.{◌≡◌, ◌≤◌, ◌+◌, ◌++◌, len
 ghost use Rattle.gc_outside.specs.Emits.{Emits};
 ghost use Rattle.session.specs.Ending.{Refuses, refusal};
 ghost use Rattle.session.specs.Names.{shown_byte, shown_name};
-ghost use Rattle.session.specs.Outside.{sink_seen};
+ghost use Rattle.gc_outside.specs.Sinks.{sink_seen};
 ghost use Rattle.session.specs.Refusals.{config_refusal, script_refusal, image_refusal, part_refusal, source_refusal};
 
 use crate::status::Status;

@@ -1,17 +1,17 @@
 // The words `run CONFIG IMAGE SCRIPT`: an image in a machine.
-ghost use Rattle.std.specs.Prelude.{◌≡◌, ◌≤◌, ◌%◌, All, None, length, map, is_ok, OnOk, IfOk, IfErr};
+ghost use Rattle.std.specs.Prelude.{◌≡◌, ◌≤◌, ◌%◌, All, None, length, map, OnOk, IfOk, IfErr};
 ghost use Rattle.cfg_tree.specs.Valid.{IsValidConfig};
 ghost use Rattle.elf_image.specs.Image.{LiesInRam};
 ghost use Rattle.kernel.specs.Build.{AreBlank, lacking};
 ghost use Rattle.kernel.specs.Load.{IsAsBuilt};
-ghost use Rattle.kernel.specs.Shown.{sys_of, sys_seen, IsMachine, IsSeen};
+ghost use Rattle.kernel.specs.Shown.{named_by, named_of, sys_of, sys_seen, IsMachine, IsSeen};
 ghost use Rattle.session.specs.Calls.{BuildStops, RunComesTo};
-ghost use Rattle.session.specs.Emissions.{EmitsInOrder};
-ghost use Rattle.session.specs.Ending.{EndsBy, StopsBy, StopsWith, status_of};
+ghost use Rattle.session.specs.Ending.{Ending, EndsBy, Leaves, StopsBy, StopsWith, status_of};
 ghost use Rattle.session.specs.Inputs.{HasConfig, ConfigStops, HasScript, ScriptStops};
 ghost use Rattle.session.specs.Named.{request_named};
-ghost use Rattle.session.specs.Outside.{OnlyReads, outside, sink_seen, sinks, store_seen};
-ghost use Rattle.session.specs.Script.{machine_start, script_written};
+ghost use Rattle.gc_outside.specs.Sinks.{sink_seen, sinks};
+ghost use Rattle.session.specs.Outside.{OnlyReads, outside, store_seen};
+ghost use Rattle.session.specs.Script.{machine_start, ScriptComesTo};
 
 use crate::fetch::{fetch, fetch_image};
 use crate::lines::{refuse, refuse_config, refuse_part, refuse_script};
@@ -21,7 +21,7 @@ use crate::words::RunWords;
 use cfg_tree::Config;
 use elf_image::Image;
 use gc_base::limits::{CONFIG_BYTES_MAX, SCRIPT_BYTES_MAX};
-use gc_outside::{Failed, Sink, Store};
+use gc_outside::{Sink, Store};
 use kernel::{BuildFault, Machine};
 use obj_core::SimObject;
 use std::alloc::Global;
@@ -84,6 +84,7 @@ fn build<R: Sink>(
     requires blank { AreBlank (map (λ b. state b) parts.items) }
     ensures machine { IfOk result (λ m. IsMachine state m) }
     ensures built { IfOk result (λ m. IsAsBuilt config.now (sys_of state m)) }
+    ensures named { IfOk result (λ m. named_of m ≡ named_by config.now) }
     ensures whole { OnOk result (lacking config.now (map (λ b. state b) parts.items) ≡ None) }
     ensures silent { OnOk result (report.new ≡ report.old) }
     ensures stops { IfErr result (λ s. StopsWith (BuildStops config.now (map (λ b. state b) parts.items))
@@ -98,27 +99,29 @@ fn build<R: Sink>(
 
 /// Loads the image, lets the machine go on, and carries out the stops.
 fn perform<C: Sink, R: Sink>(
+    alloc: Global,
     machine: Machine,
     config: &Config,
     stops: &[Stop],
     image: &Image,
     console: &mut C,
     report: &mut R,
-) -> Result<(), Failed>
+) -> Result<(), Status>
     requires machine { IsSeen machine state }
+    requires named { named_of machine ≡ named_by config.now }
     requires valid { IsValidConfig config.now }
     requires built { IsAsBuilt config.now (sys_seen machine state) }
     requires in_ram { All (LiesInRam config.now.system_ram) image.now.pieces }
     requires aligned { image.now.entry % 4 ≡ 0 }
     requires few { length stops.now ≤ 256 }
-    ensures { EmitsInOrder
-        (script_written config.now.system_budget (machine_start config.now image.now) stops.now).emissions (is_ok result)
+    ensures { (e : Ending) × ScriptComesTo config.now (machine_start config.now image.now) stops.now e
+        × Leaves e (status_of result)
         (sinks C.Sink R.Sink console.old report.old) (sinks C.Sink R.Sink console.new report.new) }
 {
     let mut machine = machine;
     machine.load_image(image);
     machine.resume_all();
-    carry_out(&mut machine, stops, config.system_budget, console, report)
+    carry_out(alloc, &mut machine, config, stops, console, report)
 }
 
 /// Gets the configuration, the script and the image, builds the machine, and carries out the script.
@@ -140,15 +143,13 @@ pub(crate) fn run<S: Store, C: Sink, R: Sink>(
     let script = fetch_script(alloc, words.script, &config, store, report)?;
     let image = fetch_image(alloc, words.image, config.system_ram as u32, store, report)?;
     let machine = build(alloc, &config, parts, report)?;
-    match perform(
+    perform(
+        alloc,
         machine,
         &config,
         script.stops.items(),
         &image,
         console,
         report,
-    ) {
-        Ok(()) => Ok(()),
-        Err(_) => Err(Status::Sink),
-    }
+    )
 }

@@ -1,28 +1,33 @@
 -- The lines of a script by what they say: a line's stop is read from its one spelling, and from no other line.
-use Rattle.std.proofs.Common.{◌≡◌, ◌⊎◌, ℕ, ◌+◌, ◌^◌, ◌<◌, ◌≤◌, nat_eq, nat_le, nat_lt, inl, inr, Bool, true, false, cond, List, [], ◌∷◌, ◌++◌, Option, Some, None, Result, Ok, Err, All, length, map, take, drop, ◌%◌, option_to_list, option_map, option_and_then, codes, decimal, refl, sym, ap, subst, ◌∙◌, arith}
-use Rattle.std.proofs.lemmas.Bool.{eqb-true, leb-true, ltb-true, or_cases, or_parts, false≢true}
+use Rattle.std.proofs.Common.{◌≡◌, ◌⊎◌, ℕ, ◌+◌, ◌*◌, ◌^◌, ◌<◌, ◌≤◌, ◌&&◌, not, nat_eq, nat_le, nat_lt, inl, inr, Bool, true, false, cond, List, [], ◌∷◌, ◌++◌, Option, Some, None, Result, Ok, Err, All, length, map, take, drop, ◌%◌, option_to_list, option_map, option_and_then, codes, decimal, refl, sym, ap, subst, ◌∙◌, arith}
+use Rattle.std.proofs.lemmas.Bool.{and_parts, eqb-true, leb-true, ltb-true, not-true, or_cases, or_parts, false≢true}
 use Rattle.std.proofs.lemmas.Bool.Decides.{nat_tests}
 use Rattle.std.proofs.lemmas.Fmt.{decimal_by_steps, digits_value-decimal}
 use Rattle.std.proofs.lemmas.List.{length-append, take-append-drop}
-use Rattle.std.proofs.lemmas.List.Elements.{All-append, All-cons, All-from_recursion, All-head, All-nil, All-push, All-tail}
+use Rattle.std.proofs.lemmas.List.Elements.{All-append, All-cons, All-head, All-nil, All-push, All-tail, All-weaker}
 use Rattle.std.proofs.lemmas.List.Splits.{length-slice_split, slice_split_at}
 use Rattle.std.specs.Cmp.Lexicographic.{pointwise}
 use Rattle.std.specs.Option.{ok_or}
 use Rattle.std.specs.Result.{result_map_both}
 use Rattle.std.specs.Str.Parse.{digits_value}
 use lib.Pointwise.{bytes_decides}
+use Rattle.hex.proofs.HexLemmas.{decode_of-encode_lower, decode_of-ok}
+use Rattle.hex.specs.Hex.{IsBytes, decode_of, encode_with}
+use Rattle.hex.specs.declared.error.FromHexError.{FromHexError}
+use Rattle.gc_text.proofs.HexadecimalLemmas.{AllPass-hex_of, length-hex_of}
+use Rattle.gc_text.specs.Hexadecimal.{hex_of, is_lower_digit}
 use Rattle.gc_text.proofs.DecimalLemmas.{decimal_is_short, std_digits}
 use Rattle.gc_text.specs.LineReader.{is_line_feed, lines_of}
 use Rattle.gm_words.specs.declared.goal.Until.{Until}
 use Rattle.gm_words.specs.declared.goal.Until.TheVariants.{Tick, Insts, End}
 use Rattle.stop_script.proofs.ScriptLemmas.{line_stop-number, without_empty_end-cons}
-use Rattle.stop_script.specs.Lines.{IsCanonical, IsFirstRefused, IsSayable, IsSayableUntil, IsScript, LineSays, LinesSay, SaysNothing, SaysStop, TellsRefused, script_text, stop_line, until_words}
+use Rattle.stop_script.specs.Lines.{IsCanonical, IsFirstRefused, IsLineOf, IsSayable, IsSayableUntil, IsScript, LineSays, LinesSay, SaysNothing, SaysStop, TellsRefused, script_text, stop_line, trace_word, until_words}
 use Rattle.stop_script.specs.Script.{TellsLine, and_later, is_skipped, is_too_much, line_stop, longest_line, most_lines, script_lines, stops_from, stops_of, without_empty_end}
-use Rattle.stop_script.specs.Stop.{behind, most, number_of, stop_of, until_of}
+use Rattle.stop_script.specs.Stop.{behind, most, number_of, octets_of, plain_stop_of, stop_of, until_of}
 use Rattle.stop_script.specs.declared.script_fault.ScriptFault.{ScriptFault}
 use Rattle.stop_script.specs.declared.script_fault.ScriptFault.TheVariants.{Line, NoMemory}
 use Rattle.stop_script.specs.declared.stop.Stop.{Stop}
-use Rattle.stop_script.specs.declared.stop.Stop.TheVariants.{Run, Regs}
+use Rattle.stop_script.specs.declared.stop.Stop.TheVariants.{Run, Regs, Stats, StatsJson, Input, Trace}
 
 -- ---- words and numbers
 
@@ -68,10 +73,51 @@ until_of-words (Tick n) h = ap (option_map Tick) (number_of-decimal n h)
 until_of-words (Insts n) h = ap (option_map Insts) (number_of-decimal n h)
 until_of-words End h = refl
 
--- the line of a stop says it
-stop_of-line : (s : Stop) → IsSayable s → stop_of (stop_line s) ≡ Some s
-stop_of-line (Run u) h = ap (option_map Run) (until_of-words u h)
-stop_of-line Regs h = refl
+-- digits of either case are read as the bytes that they spell
+octets_of-digits : (digits bytes : List ℕ) → 1 ≤ length bytes → length bytes ≤ 64 → decode_of digits ≡ Ok bytes → octets_of digits ≡ Some bytes
+octets_of-digits digits bytes some few e =
+    let twice : length digits ≡ 2 * length bytes = (decode_of-ok digits bytes e).2 in
+    let least : nat_le 2 (length digits) ≡ true = grind (arith, nat_tests) in
+    let most_digits : nat_le (length digits) 128 ≡ true = grind (arith, nat_tests) in
+    rw (least, most_digits, e) refl
+
+-- and no other text is read as bytes
+octets_of-spelled : (digits bytes : List ℕ) → octets_of digits ≡ Some bytes
+    → (1 ≤ length bytes) × (length bytes ≤ 64) × IsBytes bytes × (decode_of digits ≡ Ok bytes)
+octets_of-spelled digits bytes e = by_tests (nat_le 2 (length digits) && nat_le (length digits) 128) (decode_of digits) refl refl e
+  where
+    by_tests : (b : Bool) (r : Result (List ℕ) FromHexError) → (nat_le 2 (length digits) && nat_le (length digits) 128) ≡ b → decode_of digits ≡ r
+        → cond b (elim r [ Ok read ↦ Some read | Err fault ↦ None ]) None ≡ Some bytes
+        → (1 ≤ length bytes) × (length bytes ≤ 64) × IsBytes bytes × (decode_of digits ≡ Ok bytes)
+    by_tests true (Ok read) p q h =
+        let is : read ≡ bytes = cc in
+        let same_bytes : decode_of digits ≡ Ok bytes = q ∙ ap Ok is in
+        let ok = decode_of-ok digits bytes same_bytes in
+        let parts = and_parts (nat_le 2 (length digits)) (nat_le (length digits) 128) p in
+        (omega (arith, ok.2, leb-true 2 (length digits) parts.0), omega (arith, ok.2, leb-true (length digits) 128 parts.1), ok.3, same_bytes)
+    by_tests true (Err fault) p q h = absurd (cc)
+    by_tests false r p q h = absurd (cc)
+
+-- a line of a stop says it
+stop_of-line : (line : List ℕ) (s : Stop) → SaysStop line s → stop_of line ≡ Some s
+stop_of-line line (Run u) h = ap stop_of h.spelled ∙ ap (option_map Run) (until_of-words u h.sayable)
+stop_of-line line Regs h = ap stop_of h.spelled
+stop_of-line line Stats h = ap stop_of h.spelled
+stop_of-line line StatsJson h = ap stop_of h.spelled
+stop_of-line line (Input bytes) h =
+    let (digits, is, decoded) = h.spelled in
+    ap stop_of is ∙ ap (option_map Input) (octets_of-digits digits bytes h.sayable.0 h.sayable.1 decoded)
+stop_of-line line (Trace true) h = ap stop_of h.spelled
+stop_of-line line (Trace false) h = ap stop_of h.spelled
+
+-- the canonical line of a stop is a line of it
+line_of_stop : (s : Stop) → IsSayable s → SaysStop (stop_line s) s
+line_of_stop (Run u) h = record { sayable = h; spelled = refl }
+line_of_stop Regs h = record { sayable = h; spelled = refl }
+line_of_stop Stats h = record { sayable = h; spelled = refl }
+line_of_stop StatsJson h = record { sayable = h; spelled = refl }
+line_of_stop (Input bytes) h = record { sayable = h; spelled = (hex_of bytes, refl, decode_of-encode_lower bytes h.2) }
+line_of_stop (Trace on) h = record { sayable = h; spelled = refl }
 
 -- the words for a way to go with a number
 until_with : (kind : ℕ → Until) (front words text : List ℕ) (u : Until)
@@ -102,9 +148,21 @@ until_of-spelled words u e = by_tests (pointwise nat_eq words (codes "end")) (be
         until_with Insts (codes "insts ") words n u (λ m small. (small, refl)) (behind-spelled (codes "insts ") words n r) h
     by_tests false None None p q r h = absurd (cc)
 
--- and no other line does
-stop_of-spelled : (line : List ℕ) (s : Stop) → stop_of line ≡ Some s → SaysStop line s
-stop_of-spelled line s e = by_tests (pointwise nat_eq line (codes "regs")) (behind (codes "run ") line) refl refl e
+-- and no other line does: one of fixed words
+plain_word : (line word : List ℕ) (rest : Option Stop) (t s : Stop) → SaysStop word t → (rest ≡ Some s → SaysStop line s)
+    → cond (pointwise nat_eq line word) (Some t) rest ≡ Some s → SaysStop line s
+plain_word line word rest t s says later e = by_test (pointwise nat_eq line word) refl e
+  where
+    by_test : (b : Bool) → pointwise nat_eq line word ≡ b → cond b (Some t) rest ≡ Some s → SaysStop line s
+    by_test true p h =
+        let is : t ≡ s = cc in
+        let here : line ≡ word = same line word p in
+        subst (SaysStop line) is (subst (λ l. SaysStop l t) (sym here) says)
+    by_test false p h = later h
+
+-- one that says how far to run
+run_says : (line : List ℕ) (s : Stop) → option_map Run (option_and_then until_of (behind (codes "run ") line)) ≡ Some s → SaysStop line s
+run_says line s e = by_front (behind (codes "run ") line) refl e
   where
     by_until : (words : List ℕ) (o : Option Until) → line ≡ codes "run " ++ words → until_of words ≡ o → option_map Run o ≡ Some s → SaysStop line s
     by_until words None p q h = absurd (cc)
@@ -113,13 +171,33 @@ stop_of-spelled line s e = by_tests (pointwise nat_eq line (codes "regs")) (behi
         let is : Run u ≡ s = cc in
         subst (SaysStop line) is (record { sayable = sayable; spelled = p ∙ ap (λ x. codes "run " ++ x) spelled })
 
-    by_tests : (b : Bool) (run : Option (List ℕ)) → pointwise nat_eq line (codes "regs") ≡ b → behind (codes "run ") line ≡ run
-        → cond b (Some Regs) (option_map Run (option_and_then until_of run)) ≡ Some s → SaysStop line s
-    by_tests true run p q h =
-        let is : Regs ≡ s = cc in
-        subst (SaysStop line) is (record { sayable = tt; spelled = same line (codes "regs") p })
-    by_tests false (Some words) p q h = by_until words (until_of words) (behind-spelled (codes "run ") line words q) refl h
-    by_tests false None p q h = absurd (cc)
+    by_front : (run : Option (List ℕ)) → behind (codes "run ") line ≡ run → option_map Run (option_and_then until_of run) ≡ Some s → SaysStop line s
+    by_front (Some words) p h = by_until words (until_of words) (behind-spelled (codes "run ") line words p) refl h
+    by_front None p h = absurd (cc)
+
+plain_says : (line : List ℕ) (s : Stop) → plain_stop_of line ≡ Some s → SaysStop line s
+plain_says line s e =
+    plain_word line (codes "regs") _ Regs s (line_of_stop Regs tt)
+    (plain_word line (codes "stats") _ Stats s (line_of_stop Stats tt)
+    (plain_word line (codes "stats json") _ StatsJson s (line_of_stop StatsJson tt)
+    (plain_word line (codes "trace on") _ (Trace true) s (line_of_stop (Trace true) tt)
+    (plain_word line (codes "trace off") _ (Trace false) s (line_of_stop (Trace false) tt)
+    (run_says line s))))) e
+
+stop_of-spelled : (line : List ℕ) (s : Stop) → stop_of line ≡ Some s → SaysStop line s
+stop_of-spelled line s e = by_front (behind (codes "input ") line) refl e
+  where
+    by_bytes : (digits : List ℕ) (o : Option (List ℕ)) → line ≡ codes "input " ++ digits → octets_of digits ≡ o → option_map Input o ≡ Some s → SaysStop line s
+    by_bytes digits None p q h = absurd (cc)
+    by_bytes digits (Some bytes) p q h =
+        let (some, few, are, decoded) = octets_of-spelled digits bytes q in
+        let is : Input bytes ≡ s = cc in
+        subst (SaysStop line) is (record { sayable = (some, few, are); spelled = (digits, p, decoded) })
+
+    by_front : (input : Option (List ℕ)) → behind (codes "input ") line ≡ input
+        → elim input [ Some digits ↦ option_map Input (octets_of digits) | None ↦ plain_stop_of line ] ≡ Some s → SaysStop line s
+    by_front (Some digits) p h = by_bytes digits (octets_of digits) (behind-spelled (codes "input ") line digits p) refl h
+    by_front None p h = plain_says line s h
 
 -- ---- one line
 
@@ -128,13 +206,24 @@ until_is_short (Tick n) h = omega (arith, length-append (codes "tick ") (decimal
 until_is_short (Insts n) h = omega (arith, length-append (codes "insts ") (decimal n), decimal_is_short n (omega arith))
 until_is_short End h = omega arith
 
-line_is_short : (s : Stop) → IsSayable s → length (stop_line s) ≤ 30
-line_is_short (Run u) h = omega (arith, length-append (codes "run ") (until_words u), until_is_short u h)
-line_is_short Regs h = omega arith
+line_is_short : (line : List ℕ) (s : Stop) → SaysStop line s → length line ≤ 134
+line_is_short line (Run u) h = omega (arith, ap length h.spelled, length-append (codes "run ") (until_words u), until_is_short u h.sayable)
+line_is_short line Regs h = omega (arith, ap length h.spelled)
+line_is_short line Stats h = omega (arith, ap length h.spelled)
+line_is_short line StatsJson h = omega (arith, ap length h.spelled)
+line_is_short line (Input bytes) h =
+    let (digits, is, decoded) = h.spelled in
+    omega (arith, ap length is, length-append (codes "input ") digits, (decode_of-ok digits bytes decoded).2, h.sayable.1)
+line_is_short line (Trace true) h = omega (arith, ap length h.spelled)
+line_is_short line (Trace false) h = omega (arith, ap length h.spelled)
 
 not_skipped : (s : Stop) → is_skipped (stop_line s) ≡ false
 not_skipped (Run u) = refl
 not_skipped Regs = refl
+not_skipped Stats = refl
+not_skipped StatsJson = refl
+not_skipped (Input bytes) = refl
+not_skipped (Trace on) = refl
 
 skipped_says : (line : List ℕ) → is_skipped line ≡ true → SaysNothing line
 skipped_says [] e = inl refl
@@ -165,13 +254,13 @@ line_says number line said e = by_tests (is_too_much number line) (is_skipped li
 says_nothing_else : (line : List ℕ) (said : Option Stop) → is_skipped line ≡ false → stop_of line ≡ None → LineSays line said → ⊥
 says_nothing_else line None skipped stop says = false≢true (sym skipped ∙ says_skipped line says.1)
 says_nothing_else line (Some s) skipped stop says =
-    let also : stop_of line ≡ Some s = ap stop_of says.spelled ∙ stop_of-line s says.sayable in
+    let also : stop_of line ≡ Some s = stop_of-line line s says in
     absurd (cc)
 
 says_too_much : (line : List ℕ) (said : Option Stop) → longest_line < length line → LineSays line said → ⊥
 says_too_much line None long says = omega (arith, says.0)
 says_too_much line (Some s) long says =
-    let short : length line ≤ 30 = subst (λ l. length l ≤ 30) (sym says.spelled) (line_is_short s says.sayable) in
+    let short : length line ≤ 134 = line_is_short line s says in
     omega arith
 
 -- a line is refused by its number, where it is one too many or says nothing that a line may
@@ -197,9 +286,10 @@ line_refused number line k e = by_tests (is_too_much number line) (is_skipped li
 -- the line of a stop is read as it
 line_stop-line : (number : ℕ) (s : Stop) → IsSayable s → number ≤ most_lines → line_stop number (stop_line s) ≡ Ok (Some s)
 line_stop-line number s sayable within =
-    let short = line_is_short s sayable in
+    let says = line_of_stop s sayable in
+    let short = line_is_short (stop_line s) s says in
     let few : is_too_much number (stop_line s) ≡ false = grind (arith, nat_tests) in
-    by_tests (is_too_much number (stop_line s)) (is_skipped (stop_line s)) (stop_of (stop_line s)) few (not_skipped s) (stop_of-line s sayable)
+    by_tests (is_too_much number (stop_line s)) (is_skipped (stop_line s)) (stop_of (stop_line s)) few (not_skipped s) (stop_of-line (stop_line s) s says)
   where
     by_tests : (much skipped : Bool) (o : Option Stop) → much ≡ false → skipped ≡ false → o ≡ Some s
         → cond much (Err number) (cond skipped (Ok None) (result_map_both Some (λ n. n) (ok_or o number))) ≡ Ok (Some s)
@@ -318,6 +408,20 @@ tells_refused NoMemory text h = tt
 abbrev IsInLine : ℕ → Type 0
 IsInLine c = is_line_feed c ≡ false
 
+-- fixed words, by computing
+abbrev in_line : List ℕ → Bool
+in_line [] = true
+in_line (c ∷ cs) = not (is_line_feed c) && in_line cs
+
+word_in_line : (word : List ℕ) → in_line word ≡ true → All IsInLine word
+word_in_line [] e = All-nil IsInLine
+word_in_line (c ∷ cs) e =
+    let parts = and_parts (not (is_line_feed c)) (in_line cs) e in
+    All-cons IsInLine c cs (not-true (is_line_feed c) parts.0) (word_in_line cs parts.1)
+
+digit_in_line : (c : ℕ) → is_lower_digit c ≡ true → IsInLine c
+digit_in_line c h = grind (arith, nat_tests)
+
 decimal_in_line : (n : ℕ) → n < 2 ^ 64 → All IsInLine (decimal n)
 decimal_in_line n h =
     decimal_by_steps (λ m ds. All IsInLine ds)
@@ -328,17 +432,24 @@ decimal_in_line n h =
 until_in_line : (u : Until) → IsSayableUntil u → All IsInLine (until_words u)
 until_in_line (Tick n) h =
     All-append IsInLine (codes "tick ") (decimal n)
-    (All-from_recursion IsInLine (codes "tick ") (refl, (refl, (refl, (refl, (refl, tt)))))) (decimal_in_line n (omega arith))
+    (word_in_line (codes "tick ") refl) (decimal_in_line n (omega arith))
 until_in_line (Insts n) h =
     All-append IsInLine (codes "insts ") (decimal n)
-    (All-from_recursion IsInLine (codes "insts ") (refl, (refl, (refl, (refl, (refl, (refl, tt))))))) (decimal_in_line n (omega arith))
-until_in_line End h = All-from_recursion IsInLine (codes "end") (refl, (refl, (refl, tt)))
+    (word_in_line (codes "insts ") refl) (decimal_in_line n (omega arith))
+until_in_line End h = word_in_line (codes "end") refl
 
 stop_in_line : (s : Stop) → IsSayable s → All IsInLine (stop_line s)
 stop_in_line (Run u) h =
     All-append IsInLine (codes "run ") (until_words u)
-    (All-from_recursion IsInLine (codes "run ") (refl, (refl, (refl, (refl, tt))))) (until_in_line u h)
-stop_in_line Regs h = All-from_recursion IsInLine (codes "regs") (refl, (refl, (refl, (refl, tt))))
+    (word_in_line (codes "run ") refl) (until_in_line u h)
+stop_in_line Regs h = word_in_line (codes "regs") refl
+stop_in_line Stats h = word_in_line (codes "stats") refl
+stop_in_line StatsJson h = word_in_line (codes "stats json") refl
+stop_in_line (Input bytes) h =
+    All-append IsInLine (codes "input ") (hex_of bytes) (word_in_line (codes "input ") refl)
+    (All-weaker (λ c. is_lower_digit c ≡ true) IsInLine digit_in_line (hex_of bytes) (AllPass-hex_of bytes h.2))
+stop_in_line (Trace true) h = word_in_line (codes "trace on") refl
+stop_in_line (Trace false) h = word_in_line (codes "trace off") refl
 
 -- the lines of a canonical text are those of its stops
 script_lines-text : (stops : List Stop) → All IsSayable stops → script_lines (script_text stops) ≡ map stop_line stops

@@ -70,9 +70,9 @@ onto-and_later front stop (Ok stops) = ap Ok (sym (append_assoc front (option_to
 onto-and_later front stop (Err number) = refl
 
 -- a named line is told
-TellsLine-named : (fault : ScriptFault) (first : Result (Option Stop) ℕ) → NamesLine fault first → TellsLine fault first
-TellsLine-named (Line number) first h = h
-TellsLine-named NoMemory first h = tt
+TellsLine-named : (fault : ScriptFault) (line : List ℕ) (first : Result (Option Stop) ℕ) → NamesLine fault line first → TellsLine fault first
+TellsLine-named (Line number) line first h = h
+TellsLine-named NoMemory line first h = tt
 
 -- what a line is refused by refuses the whole
 pub TellsLine-later : (fault : ScriptFault) (front : List Stop) (first : Result (Option Stop) ℕ) (later : Result (List Stop) ℕ)
@@ -104,8 +104,8 @@ stops_from-moves front number rest line after stop some first behind said =
 
 -- a line that is refused is the first of the whole
 pub stops_from-stops : (fault : ScriptFault) (front : List Stop) (number : ℕ) (rest line : List ℕ)
-    → 0 < length rest → line ≡ first_line rest → NamesLine fault (line_stop number line)
+    → 0 < length rest → line ≡ first_line rest → NamesLine fault line (line_stop number line)
     → TellsLine fault (onto front (stops_from number (script_lines rest)))
 stops_from-stops fault front number rest line some first named =
     let e = script_lines-cons rest some in
-    rw (e, ← first) (TellsLine-later fault front (line_stop number line) (stops_from (number + 1) (script_lines (after_line rest))) (TellsLine-named fault (line_stop number line) named))
+    rw (e, ← first) (TellsLine-later fault front (line_stop number line) (stops_from (number + 1) (script_lines (after_line rest))) (TellsLine-named fault line (line_stop number line) named))

@@ -1,5 +1,7 @@
 -- Scripts line by line: what a line says, which one is refused, and canonical texts. Source: this project's own rule.
-use Rattle.std.specs.Prelude.{◌≡◌, ◌⊎◌, ℕ, ◌+◌, ◌<◌, ◌≤◌, List, [], ◌∷◌, ◌++◌, All, Option, Some, None, length, option_to_list, codes, decimal, ⊤}
+use Rattle.std.specs.Prelude.{◌≡◌, ◌⊎◌, ℕ, ◌+◌, ◌<◌, ◌≤◌, Bool, true, false, List, [], ◌∷◌, ◌++◌, All, Option, Some, None, Ok, length, option_to_list, codes, decimal, ⊤}
+use Rattle.hex.specs.Hex.{IsBytes, decode_of}
+use Rattle.gc_text.specs.Hexadecimal.{hex_of}
 use Rattle.gm_words.specs.declared.goal.Until.{Until}
 use Rattle.gm_words.specs.declared.goal.Until.TheVariants.{Tick, Insts, End}
 use Rattle.stop_script.specs.Script.{longest_line, most_lines, script_lines}
@@ -7,7 +9,7 @@ use Rattle.stop_script.specs.Stop.{most}
 use Rattle.stop_script.specs.declared.script_fault.ScriptFault.{ScriptFault}
 use Rattle.stop_script.specs.declared.script_fault.ScriptFault.TheVariants.{Line, NoMemory}
 use Rattle.stop_script.specs.declared.stop.Stop.{Stop}
-use Rattle.stop_script.specs.declared.stop.Stop.TheVariants.{Run, Regs}
+use Rattle.stop_script.specs.declared.stop.Stop.TheVariants.{Run, Regs, Stats, StatsJson, Input, Trace}
 
 -- how far a script can ask to run: to a number that isn't too great, or to the end
 abbrev pub IsSayableUntil : Until → Type 0
@@ -19,6 +21,10 @@ IsSayableUntil End = ⊤
 abbrev pub IsSayable : Stop → Type 0
 IsSayable (Run until) = IsSayableUntil until
 IsSayable Regs = ⊤
+IsSayable Stats = ⊤
+IsSayable StatsJson = ⊤
+IsSayable (Input bytes) = (1 ≤ length bytes) × (length bytes ≤ 64) × IsBytes bytes
+IsSayable (Trace on) = ⊤
 
 -- the words for how far
 abbrev pub until_words : Until → List ℕ
@@ -26,19 +32,37 @@ until_words (Tick n) = codes "tick " ++ decimal n
 until_words (Insts n) = codes "insts " ++ decimal n
 until_words End = codes "end"
 
--- the one line of a stop
+-- the word for whether events are traced
+abbrev pub trace_word : Bool → List ℕ
+trace_word true = codes "on"
+trace_word false = codes "off"
+
+-- the canonical line of a stop, which has bytes in lower-case digits
 abbrev pub stop_line : Stop → List ℕ
 stop_line (Run until) = codes "run " ++ until_words until
 stop_line Regs = codes "regs"
+stop_line Stats = codes "stats"
+stop_line StatsJson = codes "stats json"
+stop_line (Input bytes) = codes "input " ++ hex_of bytes
+stop_line (Trace on) = codes "trace " ++ trace_word on
+
+-- a line of a stop: the canonical one, or one whose digits have another case
+abbrev pub IsLineOf : List ℕ → Stop → Type 0
+IsLineOf line (Run until) = line ≡ stop_line (Run until)
+IsLineOf line Regs = line ≡ stop_line Regs
+IsLineOf line Stats = line ≡ stop_line Stats
+IsLineOf line StatsJson = line ≡ stop_line StatsJson
+IsLineOf line (Input bytes) = (digits : List ℕ) × (line ≡ codes "input " ++ digits) × (decode_of digits ≡ Ok bytes)
+IsLineOf line (Trace on) = line ≡ stop_line (Trace on)
 
 -- a line that is empty, or begins with `#`
 abbrev pub SaysNothing : List ℕ → Type 0
 SaysNothing line = (line ≡ []) ⊎ ((comment : List ℕ) × (line ≡ 35 ∷ comment))
 
--- the line of a stop that a script can ask for
+-- a line of a stop that a script can ask for
 pub record SaysStop (line : List ℕ) (stop : Stop) : Type 0 where
   pub sayable : IsSayable stop
-  pub spelled : line ≡ stop_line stop
+  pub spelled : IsLineOf line stop
 
 -- what a line that isn't too long says: a stop, or nothing
 abbrev pub LineSays : List ℕ → Option Stop → Type 0

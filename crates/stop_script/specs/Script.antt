@@ -1,9 +1,9 @@
 -- A script: a text of lines, each of which says a stop or nothing. Source: this project's own rule.
-use Rattle.std.specs.Prelude.{◌≡◌, ℕ, ◌+◌, ◌||◌, ◌==◌, Bool, true, nat_lt, if◌then◌else◌, List, [], ◌∷◌, ◌++◌, Option, Some, None, Result, Ok, Err, length, option_to_list, ⊤}
+use Rattle.std.specs.Prelude.{◌≡◌, ℕ, ◌+◌, ◌||◌, ◌==◌, Bool, true, nat_lt, if◌then◌else◌, List, [], ◌∷◌, ◌++◌, Option, Some, None, Result, Ok, Err, IsSome, codes, length, option_to_list, ⊤}
 use Rattle.std.specs.Option.{ok_or}
 use Rattle.std.specs.Result.{result_map_both}
 use Rattle.gc_text.specs.LineReader.{lines_of}
-use Rattle.stop_script.specs.Stop.{stop_of}
+use Rattle.stop_script.specs.Stop.{behind, stop_of}
 use Rattle.stop_script.specs.declared.stop.Stop.{Stop}
 use Rattle.stop_script.specs.declared.script_fault.ScriptFault.{ScriptFault}
 use Rattle.stop_script.specs.declared.script_fault.ScriptFault.TheVariants.{Line, NoMemory}
@@ -62,7 +62,7 @@ abbrev pub TellsLine : {A : Type 0} → ScriptFault → Result A ℕ → Type 0
 TellsLine (Line number) said = said ≡ Err number
 TellsLine NoMemory said = ⊤
 
--- a fault names the line that is refused, and isn't want of memory
-abbrev pub NamesLine : {A : Type 0} → ScriptFault → Result A ℕ → Type 0
-NamesLine (Line number) said = said ≡ Err number
-NamesLine NoMemory said = ⊥
+-- a fault names the line that is refused, or is want of memory for the bytes of one that begins with `input`
+abbrev pub NamesLine : {A : Type 0} → ScriptFault → List ℕ → Result A ℕ → Type 0
+NamesLine (Line number) line said = said ≡ Err number
+NamesLine NoMemory line said = IsSome (behind (codes "input ") line)

@@ -47,7 +47,7 @@ fn stops_in(alloc: Global, bytes: &[u8]) -> Result<Vec<Stop>, ScriptFault>
     while !rest.is_empty() {
         number += 1;
         let (line, after) = split_line(rest);
-        if let Some(stop) = read_line(line, number)? {
+        if let Some(stop) = read_line(alloc, line, number)? {
             stops.push(stop)?;
         }
         rest = after;
@@ -67,10 +67,10 @@ fn split_line(text: &[u8]) -> (&[u8], &[u8])
 }
 
 // The stop of the line with this number, which has none where it is empty or a comment.
-fn read_line(line: &[u8], number: u32) -> Result<Option<Stop>, ScriptFault>
+fn read_line(alloc: Global, line: &[u8], number: u32) -> Result<Option<Stop>, ScriptFault>
     ensures { MatchResult result
         (λ stop. line_stop number line.now ≡ Ok stop)
-        (λ fault. NamesLine fault (line_stop number line.now)) }
+        (λ fault. NamesLine fault line.now (line_stop number line.now)) }
 {
     if number as usize > SCRIPT_LINES_MAX || line.len() > MAX_LINE {
         return Err(ScriptFault::Line { line: number });
@@ -78,9 +78,10 @@ fn read_line(line: &[u8], number: u32) -> Result<Option<Stop>, ScriptFault>
     if is_skipped(line) {
         return Ok(None);
     }
-    match stop_of(line) {
-        Some(stop) => Ok(Some(stop)),
-        None => Err(ScriptFault::Line { line: number }),
+    match stop_of(alloc, line) {
+        Ok(Some(stop)) => Ok(Some(stop)),
+        Ok(None) => Err(ScriptFault::Line { line: number }),
+        Err(_) => Err(ScriptFault::NoMemory),
     }
 }
 

@@ -25,20 +25,51 @@ fn configuration(alloc: Global) -> Config {
     }
 }
 
+// A stop as the tables have it, with its bytes lent.
+#[derive(Clone, Copy)]
+enum Said {
+    Run(Until),
+    Regs,
+    Stats,
+    StatsJson,
+    Input(&'static [u8]),
+    Trace(bool),
+}
+
+fn is_said(stop: &Stop, said: Said) -> bool {
+    match (stop, said) {
+        (Stop::Run(until), Said::Run(wanted)) => *until == wanted,
+        (Stop::Regs, Said::Regs) => true,
+        (Stop::Stats, Said::Stats) => true,
+        (Stop::StatsJson, Said::StatsJson) => true,
+        (Stop::Input(bytes), Said::Input(wanted)) => bytes.items() == wanted,
+        (Stop::Trace(on), Said::Trace(wanted)) => *on == wanted,
+        _ => false,
+    }
+}
+
+fn are_said(stops: &[Stop], said: &[Said]) -> bool {
+    stops.len() == said.len()
+        && stops
+            .iter()
+            .zip(said)
+            .all(|(stop, said)| is_said(stop, *said))
+}
+
 // Whether a text reads as these stops, or is refused at this line.
-fn reads_as(alloc: Global, text: &[u8], wanted: Result<&[Stop], u32>) -> bool {
+fn reads_as(alloc: Global, text: &[u8], wanted: Result<&[Said], u32>) -> bool {
     match (read(alloc, text, &configuration(alloc)), wanted) {
-        (Ok(script), Ok(stops)) => script.stops.items() == stops,
+        (Ok(script), Ok(said)) => are_said(script.stops.items(), said),
         (Err(ScriptFault::Line { line }), Err(number)) => line == number,
         _ => false,
     }
 }
 
 /// The stop of `run end`.
-const END: Stop = Stop::Run(Until::End);
+const END: Said = Said::Run(Until::End);
 
 /// Scripts, each with the stops that it says, or the line that is refused.
-static SCRIPTS: [(&[u8], Result<&[Stop], u32>); 78] = [
+static SCRIPTS: [(&[u8], Result<&[Said], u32>); 98] = [
     // Empty lines, comments, and a last line without its line feed.
     (b"", Ok(&[])),
     (b"\n", Ok(&[])),
@@ -46,24 +77,24 @@ static SCRIPTS: [(&[u8], Result<&[Stop], u32>); 78] = [
     (b"#", Ok(&[])),
     (b"run end", Ok(&[END])),
     (b"run end\n", Ok(&[END])),
-    (b"regs\n", Ok(&[Stop::Regs])),
-    (b"run end\nregs\n", Ok(&[END, Stop::Regs])),
-    (b"regs\nrun end", Ok(&[Stop::Regs, END])),
+    (b"regs\n", Ok(&[Said::Regs])),
+    (b"run end\nregs\n", Ok(&[END, Said::Regs])),
+    (b"regs\nrun end", Ok(&[Said::Regs, END])),
     (
         b"# a comment, \xff\xfe\r\n\nrun end\n\n#\nregs",
-        Ok(&[END, Stop::Regs]),
+        Ok(&[END, Said::Regs]),
     ),
     // Numbers have one spelling, and are at most 2^62.
-    (b"run insts 0\n", Ok(&[Stop::Run(Until::Insts(0))])),
-    (b"run tick 0\n", Ok(&[Stop::Run(Until::Tick(0))])),
-    (b"run tick 3000\n", Ok(&[Stop::Run(Until::Tick(3_000))])),
+    (b"run insts 0\n", Ok(&[Said::Run(Until::Insts(0))])),
+    (b"run tick 0\n", Ok(&[Said::Run(Until::Tick(0))])),
+    (b"run tick 3000\n", Ok(&[Said::Run(Until::Tick(3_000))])),
     (
         b"run tick 4611686018427387904\n",
-        Ok(&[Stop::Run(Until::Tick(1 << 62))]),
+        Ok(&[Said::Run(Until::Tick(1 << 62))]),
     ),
     (
         b"run insts 4611686018427387904\n",
-        Ok(&[Stop::Run(Until::Insts(1 << 62))]),
+        Ok(&[Said::Run(Until::Insts(1 << 62))]),
     ),
     (b"run tick 4611686018427387905\n", Err(1)),
     (b"run insts 4611686018427387905\n", Err(1)),
@@ -130,12 +161,43 @@ static SCRIPTS: [(&[u8], Result<&[Stop], u32>); 78] = [
     (b"run tick 01\nrun  end\n", Err(1)),
     (b"run  end\nrun tick 01\n", Err(1)),
     (b"#\nregs\n#\nrun\n#\n", Err(4)),
+    // Statistics and the trace.
+    (b"stats\nstats json\n", Ok(&[Said::Stats, Said::StatsJson])),
+    (
+        b"trace on\nrun end\ntrace off",
+        Ok(&[Said::Trace(true), END, Said::Trace(false)]),
+    ),
+    (b"stats  json\n", Err(1)),
+    (b"stats \n", Err(1)),
+    (b"stats JSON\n", Err(1)),
+    (b"trace\n", Err(1)),
+    (b"trace yes\n", Err(1)),
+    (b"trace on \n", Err(1)),
+    (b"regs\ntrace offf\n", Err(2)),
+    // Input: from 1 to 64 bytes in pairs of digits of either case.
+    (b"input 00\n", Ok(&[Said::Input(b"\0")])),
+    (b"input 48656C6c6f0A", Ok(&[Said::Input(b"Hello\n")])),
+    (
+        b"input 7a7A7a7A7a7A7a7A7a7A7a7A7a7A7a7A7a7A7a7A7a7A7a7A7a7A7a7A7a7A7a7A7a7A7a7A7a7A7a7A7a7A7a7A7a7A7a7A7a7A7a7A7a7A7a7A7a7A7a7A7a7A7a7A",
+        Ok(&[Said::Input(b"zzzzzzzzzzzzzzzzzzzzzzzzzzzzzzzzzzzzzzzzzzzzzzzzzzzzzzzzzzzzzzzz")]),
+    ),
+    (
+        b"input 7a7A7a7A7a7A7a7A7a7A7a7A7a7A7a7A7a7A7a7A7a7A7a7A7a7A7a7A7a7A7a7A7a7A7a7A7a7A7a7A7a7A7a7A7a7A7a7A7a7A7a7A7a7A7a7A7a7A7a7A7a7A7a7A7a\n",
+        Err(1),
+    ),
+    (b"input\n", Err(1)),
+    (b"input \n", Err(1)),
+    (b"input 0\n", Err(1)),
+    (b"input 000\n", Err(1)),
+    (b"input 0g\n", Err(1)),
+    (b"input 0x41\n", Err(1)),
+    (b"input 41 42\n", Err(1)),
+    (b"input  41\n", Err(1)),
+    (b"Input 41\n", Err(1)),
     // These come later.
     (b"drain\n", Err(1)),
-    (b"stats\n", Err(1)),
     (b"regs\nswitch atomic\n", Err(2)),
     (b"regs\ncheckpoint a\n", Err(2)),
-    (b"trace on\n", Err(1)),
 ];
 
 #[test]
@@ -161,11 +223,11 @@ fn long_scripts_are_read_or_refused(rt: HostRuntime) {
     ended[1_026] = b'\n';
     let mut words = [b'0'; 1_025];
     words[..9].copy_from_slice(b"run tick ");
-    let cases: [(&[u8], Result<&[Stop], u32>); 11] = [
+    let cases: [(&[u8], Result<&[Said], u32>); 11] = [
         (&empty[..256], Ok(&[])),
         (&empty, Err(257)),
-        (&last[..259], Ok(&[Stop::Regs])),
-        (&last, Ok(&[Stop::Regs])),
+        (&last[..259], Ok(&[Said::Regs])),
+        (&last, Ok(&[Said::Regs])),
         (&past, Err(257)),
         (&comment[..1_026], Ok(&[])),
         (&comment[..1_027], Err(2)),

@@ -10,7 +10,9 @@ use std::test::Fail;
 
 mod examples;
 mod files;
+mod interrupts;
 mod ticks;
+mod traces;
 
 /// A machine with 64 KiB of RAM: its model, its budget, more keys of `cpu`, the latency of `corebus`, and more sections.
 macro_rules! config {

@@ -1,5 +1,5 @@
-use Rattle.std.proofs.Common.{arith, rules, ◌+◌, ◌∙◌}
-use Rattle.kernel.proofs.EntryLemmas.{raised_below, counted_same, counted_most, counted_events}
+use Rattle.std.proofs.Common.{arith, ◌+◌, ◌∙◌}
+use Rattle.kernel.proofs.EntryLemmas.{raised_below, counted_same, counted_most, counted_events, counted_kept}
 use Rattle.kernel.proofs.entries.count.Goals as goal
 
 pub note-requires : goal.note-requires
@@ -13,5 +13,5 @@ loop-entry-preserved c =
       same = counted_same es c.loop-entry.entry-index _ c.loop-entry.counters c.note.new.self c.loop-entry-test.true c.note.ensures _ i.same;
       most = counted_most es c.loop-entry.entry-index _ c.loop-entry.counters c.note.new.self c.loop-entry-test.true c.note.ensures 9223372036854775808 i.most;
       events = counted_events es c.loop-entry.entry-index _ c.loop-entry.counters c.note.new.self c.loop-entry-test.true c.note.ensures ∙ i.events;
-      since = search rules;
+      kept = counted_kept es c.loop-entry.entry-index _ c.loop-entry.counters c.note.new.self c.loop-entry-test.true c.note.ensures c.args.counters.now i.kept;
     }

@@ -8,5 +8,5 @@ invariant-loop-entry l = record {
   same : count_entries l.counters.counts (drop l.entry-index l.entries) ≡ count_entries l.initial.counters.counts l.entries;
   most : IsCountedUpTo (2 ^ 63 + l.entry-index) l.counters.counts;
   events : l.counters.counts.events ≡ l.initial.counters.counts.events;
-  since : l.counters.since ≡ l.initial.counters.since;
+  kept : l.counters ≡ record l.initial.counters { counts = l.counters.counts };
 }

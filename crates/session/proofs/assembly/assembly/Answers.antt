@@ -1,6 +1,7 @@
 use Rattle.std.proofs.Common.{ap, inl, inr}
 use Rattle.std.proofs.lemmas.Result.{err_from_is_err_and}
-use Rattle.session.specs.Outside.{sink_seen, store_seen}
+use Rattle.gc_outside.specs.Sinks.{sink_seen}
+use Rattle.session.specs.Outside.{store_seen}
 use Rattle.session.proofs.CallLemmas.{put_earlier}
 use Rattle.session.proofs.CountLemmas.{counts_earlier}
 use Rattle.session.proofs.EmissionLemmas.{refuses_from}

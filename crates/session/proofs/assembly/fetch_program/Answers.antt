@@ -1,5 +1,6 @@
 use Rattle.std.proofs.Common.{ap}
-use Rattle.session.specs.Outside.{sink_seen, store_seen}
+use Rattle.gc_outside.specs.Sinks.{sink_seen}
+use Rattle.session.specs.Outside.{store_seen}
 use Rattle.session.specs.Refusals.{source_refusal}
 use Rattle.session.proofs.CallLemmas.{source_stops}
 use Rattle.session.proofs.CountLemmas.{source_counts}

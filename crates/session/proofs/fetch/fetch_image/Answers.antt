@@ -1,5 +1,6 @@
 use Rattle.std.proofs.Common.{ap}
-use Rattle.session.specs.Outside.{sink_seen, store_seen}
+use Rattle.gc_outside.specs.Sinks.{sink_seen}
+use Rattle.session.specs.Outside.{store_seen}
 use Rattle.session.specs.Refusals.{image_refusal}
 use Rattle.session.proofs.CallLemmas.{image_stops}
 use Rattle.session.proofs.CountLemmas.{image_counts}

@@ -2,7 +2,7 @@ use Rattle.std.proofs.Common.{refl, ap, ◌∙◌, inl, inr}
 use Rattle.std.proofs.lemmas.Result.{err_from_is_err_and}
 use Rattle.rv_step.specs.Run.{flat_run}
 use Rattle.session.specs.Ending.{memory_refusal, work_done}
-use Rattle.session.specs.Outside.{sink_seen}
+use Rattle.gc_outside.specs.Sinks.{sink_seen}
 use Rattle.session.specs.Report.{flat_emissions}
 use Rattle.session.specs.Run.{flat_start}
 use Rattle.session.proofs.EmissionLemmas.{refuses_from, done_leaves, cut_leaves}

@@ -2,11 +2,11 @@ use Rattle.std.proofs.Common.{List, ℕ, [], ◌∷◌, ap, ◌∙◌, subst}
 use Rattle.std.specs.Prelude.{is_ok}
 use Rattle.gc_outside.specs.Emits.{Emits}
 use Rattle.rv_step.specs.Run.{flat_run}
-use Rattle.session.specs.Emissions.{ToConsole, ToReport}
-use Rattle.session.specs.Outside.{sink_seen}
+use Rattle.gc_outside.specs.Emissions.{ToConsole, ToReport}
+use Rattle.gc_outside.specs.Sinks.{sink_seen}
 use Rattle.session.specs.Report.{flat_report}
 use Rattle.session.specs.Run.{state_with}
-use Rattle.session.proofs.EmissionLemmas.{order_report, order_console, order_then, order_cut, not_ok}
+use Rattle.gc_outside.proofs.InOrder.{order_report, order_console, order_then, order_cut, not_ok}
 use Rattle.session.proofs.flat.perform.Goals as goal
 
 pub returns-in_err-run : goal.returns-in_err-run

@@ -2,7 +2,7 @@ use Rattle.std.proofs.Common.{List, ℕ, ◌++◌, subst}
 use Rattle.std.specs.Prelude.{codes}
 use Rattle.session.specs.Ending.{Refuses, refusal}
 use Rattle.session.specs.Names.{shown_name}
-use Rattle.session.specs.Outside.{sink_seen}
+use Rattle.gc_outside.specs.Sinks.{sink_seen}
 use Rattle.session.specs.declared.status.Status.TheVariants as status
 use Rattle.session.proofs.lines.refuse_config.Goals as goal
 

@@ -2,7 +2,7 @@ use Rattle.std.proofs.Common.{arith, ap, ◌∙◌, subst, length, ◌++◌, Lis
 use Rattle.std.specs.Prelude.{codes}
 use Rattle.std.proofs.lemmas.Fmt.{length-decimal-le}
 use Rattle.session.specs.Ending.{Refuses, refusal}
-use Rattle.session.specs.Outside.{sink_seen}
+use Rattle.gc_outside.specs.Sinks.{sink_seen}
 use Rattle.session.proofs.lines.refuse_number.Goals as goal
 
 pub put_dec-requires : goal.put_dec-requires

@@ -3,7 +3,7 @@ use Rattle.std.specs.Prelude.{codes}
 use Rattle.std.proofs.lemmas.Fmt.{length-decimal-le}
 use Rattle.rv_asm.specs.Faults.{kind_name}
 use Rattle.session.specs.Ending.{Refuses, refusal}
-use Rattle.session.specs.Outside.{sink_seen}
+use Rattle.gc_outside.specs.Sinks.{sink_seen}
 use Rattle.session.specs.declared.status.Status.TheVariants as status
 use Rattle.session.proofs.lines.refuse_source.Goals as goal
 

@@ -1,5 +1,5 @@
 use Rattle.gc_outside.proofs.Emissions.{emits_then, emits_cut}
-use Rattle.session.proofs.EmissionLemmas.{not_ok}
+use Rattle.gc_outside.proofs.InOrder.{not_ok}
 use Rattle.session.proofs.lines.say_about.Goals as goal
 
 pub returns-in_err-say : goal.returns-in_err-say

@@ -4,7 +4,7 @@ use Rattle.std.proofs.Math.Seq.{take-nil}
 use Rattle.std.proofs.lemmas.List.{map-append, take-append-drop}
 use Rattle.gc_outside.specs.Emits.{Emits}
 use Rattle.session.specs.Names.{shown_byte, shown_name}
-use Rattle.session.proofs.EmissionLemmas.{not_ok}
+use Rattle.gc_outside.proofs.InOrder.{not_ok}
 use Rattle.gc_outside.proofs.Emissions.{emits_nothing, emits_then, emits_cut}
 use Rattle.session.proofs.lines.say_name.Goals as goal
 

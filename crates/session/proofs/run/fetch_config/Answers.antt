@@ -1,5 +1,6 @@
 use Rattle.std.proofs.Common.{ap}
-use Rattle.session.specs.Outside.{sink_seen, store_seen}
+use Rattle.gc_outside.specs.Sinks.{sink_seen}
+use Rattle.session.specs.Outside.{store_seen}
 use Rattle.session.specs.Refusals.{config_refusal}
 use Rattle.session.proofs.CallLemmas.{config_stops}
 use Rattle.session.proofs.CountLemmas.{config_counts}

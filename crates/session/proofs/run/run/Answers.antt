@@ -1,11 +1,11 @@
-use Rattle.std.proofs.Common.{refl, ap, ◌∙◌, inl, inr, map, arith, length}
+use Rattle.std.proofs.Common.{ap, ◌∙◌, inl, inr, map, arith, length, subst}
 use Rattle.std.proofs.lemmas.Result.{err_from_is_err_and}
-use Rattle.session.specs.Ending.{work_done}
-use Rattle.session.specs.Outside.{sink_seen, store_seen}
-use Rattle.session.specs.Script.{machine_start, script_written}
+use Rattle.gc_outside.specs.Sinks.{sink_seen}
+use Rattle.session.specs.Outside.{store_seen}
+use Rattle.session.specs.Script.{machine_start, ScriptComesTo}
 use Rattle.session.proofs.CallLemmas.{run_script_stops, run_image_stops, run_machine}
-use Rattle.session.proofs.CountLemmas.{counts_earlier, build_counts}
-use Rattle.session.proofs.EmissionLemmas.{refuses_from, done_leaves, cut_leaves}
+use Rattle.session.proofs.CountLemmas.{counts_earlier, build_counts, stops_counts}
+use Rattle.session.proofs.EmissionLemmas.{leaves_from, refuses_from}
 use Rattle.session.proofs.FetchLemmas.{reads_then}
 use Rattle.session.proofs.StopLemmas.{few_stops}
 use Rattle.session.proofs.run.run.Goals as goal
@@ -69,22 +69,6 @@ perform-requires-clause-few g c =
     let script = c.in_ok-script.ensures.script in
     omega (arith, few_stops script.bytes c.in_ok-script.script.stops script.says, ap length c.items.ensures)
 
-pub returns-in-Ok-clause-reads : goal.returns-in-Ok-clause-reads
-returns-in-Ok-clause-reads g c =
-    reads_then _ _ _ c.in_ok-config.ensures.reads (reads_then _ _ _ c.in_ok-script.ensures.reads c.in_ok-image.ensures.reads)
-
-pub returns-in-Ok-clause-ends : goal.returns-in-Ok-clause-ends
-returns-in-Ok-clause-ends g c =
-    let start = machine_start c.in_ok-config.config c.in_ok-image.image in
-    let es = (script_written c.in_ok-config.config.system_budget start c.in_ok-script.script.stops).emissions in (
-      work_done es,
-      run_machine _ (map (λ b. (goal.SimObject-dyn g (b.vtable, b.value)).state b.value) c.args.parts.items) _ (store_seen g.S.Store c.fetch_image.new.store) _ c.in_ok-config.config c.in_ok-config.ensures.config _ c.in_ok-config.ensures.reads c.in_ok-script.script.stops c.in_ok-script.ensures.script _ c.in_ok-script.ensures.reads
-          c.in_ok-image.image c.in_ok-image.ensures.image (inr (c.in_ok-machine.ensures.whole, refl)),
-      c.in_ok-image.ensures.faultless ∙ (c.in_ok-script.ensures.faultless ∙ c.in_ok-config.ensures.faultless),
-      done_leaves es _ (sink_seen g.C.Sink c.args.console.now) _ _ _ (ap (λ xs. (script_written c.in_ok-config.config.system_budget start xs).emissions) c.items.ensures)
-          (ap (sink_seen g.R.Sink) (c.in_ok-machine.ensures.silent ∙ (c.in_ok-image.ensures.silent ∙ (c.in_ok-script.ensures.silent ∙ c.in_ok-config.ensures.silent)))) c.in-Ok.ensures,
-    )
-
 pub returns-clause-reads : goal.returns-clause-reads
 returns-clause-reads g c =
     reads_then _ _ _ c.in_ok-config.ensures.reads (reads_then _ _ _ c.in_ok-script.ensures.reads c.in_ok-image.ensures.reads)
@@ -92,11 +76,13 @@ returns-clause-reads g c =
 pub returns-clause-ends : goal.returns-clause-ends
 returns-clause-ends g c =
     let start = machine_start c.in_ok-config.config c.in_ok-image.image in
-    let es = (script_written c.in_ok-config.config.system_budget start c.in_ok-script.script.stops).emissions in (
-      work_done es,
+    let h = c.perform.ensures in
+    let comes = subst (λ xs. ScriptComesTo c.in_ok-config.config start xs h.0) c.items.ensures h.1 in (
+      h.0,
       run_machine _ (map (λ b. (goal.SimObject-dyn g (b.vtable, b.value)).state b.value) c.args.parts.items) _ (store_seen g.S.Store c.fetch_image.new.store) _ c.in_ok-config.config c.in_ok-config.ensures.config _ c.in_ok-config.ensures.reads c.in_ok-script.script.stops c.in_ok-script.ensures.script _ c.in_ok-script.ensures.reads
-          c.in_ok-image.image c.in_ok-image.ensures.image (inr (c.in_ok-machine.ensures.whole, refl)),
-      c.in_ok-image.ensures.faultless ∙ (c.in_ok-script.ensures.faultless ∙ c.in_ok-config.ensures.faultless),
-      cut_leaves es _ (sink_seen g.C.Sink c.args.console.now) _ _ _ (ap (λ xs. (script_written c.in_ok-config.config.system_budget start xs).emissions) c.items.ensures)
-          (ap (sink_seen g.R.Sink) (c.in_ok-machine.ensures.silent ∙ (c.in_ok-image.ensures.silent ∙ (c.in_ok-script.ensures.silent ∙ c.in_ok-config.ensures.silent)))) c.in-Err.ensures,
+          c.in_ok-image.image c.in_ok-image.ensures.image (inr (c.in_ok-machine.ensures.whole, comes)),
+      stops_counts h.0 c.in_ok-config.config start c.in_ok-script.script.stops (store_seen g.S.Store c.args.store.now) (store_seen g.S.Store c.fetch_image.new.store) comes
+          (c.in_ok-image.ensures.faultless ∙ (c.in_ok-script.ensures.faultless ∙ c.in_ok-config.ensures.faultless)),
+      leaves_from _ _ (sink_seen g.C.Sink c.args.console.now) _ _ _
+          (ap (sink_seen g.R.Sink) (c.in_ok-machine.ensures.silent ∙ (c.in_ok-image.ensures.silent ∙ (c.in_ok-script.ensures.silent ∙ c.in_ok-config.ensures.silent)))) h.2,
     )

@@ -1,5 +1,5 @@
 use Rattle.std.proofs.Common.{refl}
-use Rattle.session.specs.Outside.{sink_seen}
+use Rattle.gc_outside.specs.Sinks.{sink_seen}
 use Rattle.session.proofs.EndsLemmas.{ends-flat, ends-run, ends-assembly, ends-usage, puts-flat, puts-run, puts-assembly, puts-nothing}
 use Rattle.session.proofs.top_call.perform.Goals as goal
 

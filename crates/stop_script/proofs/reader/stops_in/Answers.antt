@@ -11,7 +11,7 @@ IfErr-from_and (Err e) P Q h f = f e h
 
 pub returns-in_err-stop-clause-line : goal.returns-in_err-stop-clause-line
 returns-in_err-stop-clause-line c =
-    let named : NamesLine c.in_err-stop.field-0.0 (line_stop (c.loop-rest.number + 1) c.split_line.result.0.now) = c.in_err-stop.ensures in
+    let named : NamesLine c.in_err-stop.field-0.0 c.split_line.result.0.now (line_stop (c.loop-rest.number + 1) c.split_line.result.0.now) = c.in_err-stop.ensures in
     let some : 0 < length c.loop-rest.rest.now = length-filled c.loop-rest.rest.now c.loop-rest-test.ensures in
     let whole = stops_from-stops c.in_err-stop.field-0.0 c.loop-rest.stops.items (c.loop-rest.number + 1) c.loop-rest.rest.now
     c.split_line.result.0.now some c.split_line.ensures.line named in

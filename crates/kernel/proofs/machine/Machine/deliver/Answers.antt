@@ -6,6 +6,7 @@ pub items-init : goal.items-init
 items-init g c = record {
   delivered = delivers_none _;
   table = refl;
+  counters = refl;
 }
 
 pub deliver_item-requires : goal.deliver_item-requires
@@ -15,6 +16,7 @@ pub items-preserved : goal.items-preserved
 items-preserved g c = record {
   delivered = delivers_more c.items._n _ _ _ c.items.invariant.delivered (rw c.if-not-deliver_item.false at c.deliver_item.ensures.delivered);
   table = c.deliver_item.ensures.table ∙ c.items.invariant.table;
+  counters = c.deliver_item.ensures.counters ∙ c.items.invariant.counters;
 }
 
 pub returns-then-not-deliver_item-clause-delivered : goal.returns-then-not-deliver_item-clause-delivered

@@ -9,4 +9,5 @@ invariant-items g l = record {
   delivered : Delivers l._n (delivery_of (λ b. (goal.SimObject-dyn g (b.vtable, b.value)).state b.value) l.initial.self)
       (delivery_of (λ b. (goal.SimObject-dyn g (b.vtable, b.value)).state b.value) l.self);
   table : l.self.queue.table ≡ l.initial.self.queue.table;
+  counters : l.self.counters ≡ l.initial.self.counters;
 }

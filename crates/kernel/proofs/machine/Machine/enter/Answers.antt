@@ -19,6 +19,7 @@ loop-i-init g c = record {
   out = refl;
   counters = refl;
   router = refl;
+  trace = refl;
   draining = refl;
 }
 
@@ -38,6 +39,7 @@ loop-i-preserved g c =
       out = i.out;
       counters = i.counters;
       router = i.router;
+      trace = i.trace;
       draining = i.draining;
     }
 
@@ -47,5 +49,5 @@ returns-clause-entered g c =
     let v = c.loop-i.self.parts in
     sys_same _ _ i.tick (ap (λ (q : Queue). q.pending) i.queue)
     (all_commanded _ (enter_command c.args.entry) v.items c.loop-i.i _ (omega (arith, v.ok.0, i.len, c.len-i-end.ensures, c.loop-i-test.false)) i.done)
-    (ap (λ (o : Out). o.next) i.out) (ap (λ (k : Counted). k.counts) i.counters) (ap (λ (k : Counted). k.since) i.counters) refl i.draining
+    (ap (λ (o : Out). o.next) i.out) (ap (λ (k : Counted). k.counts) i.counters) (ap (λ (k : Counted). k.since) i.counters) i.trace i.draining
     (ap (λ ps. wires_of (map part_shown ps.items)) i.platform) i.router

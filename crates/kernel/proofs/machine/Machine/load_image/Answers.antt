@@ -9,6 +9,7 @@ loop-block-init g c = record {
   pieces = ap (λ (l : Loading). l.pieces) c.new-blocks.ensures.start ∙ c.items.ensures;
   put = none_put (sys_of (λ b. (goal.SimObject-dyn g (b.vtable, b.value)).state b.value) c.args.self.now) c.new-blocks.result c.new-blocks.ensures.zero;
   entries = refl;
+  named = refl;
   machine = c.requires.machine;
 }
 
@@ -25,6 +26,7 @@ loop-block-preserved g c =
       put = block_put (sys_of (λ b. (goal.SimObject-dyn g (b.vtable, b.value)).state b.value) c.args.self.now) (sys_of (λ b. (goal.SimObject-dyn g (b.vtable, b.value)).state b.value) c.loop-block.self) c.loop-block.blocks c.next.new.self c.in-Some.block.addr c.in-Some.block.bytes.now c.args.image.now.pieces i.pieces i.put c.in-Some.ensures.put
           (sys_of (λ b. (goal.SimObject-dyn g (b.vtable, b.value)).state b.value) c.put_raw.new.self) c.in-Some.ensures.pieces c.put_raw.ensures.raw;
       entries = c.put_raw.ensures.entries ∙ i.entries;
+      named = c.put_raw.ensures.named ∙ i.named;
       machine = c.put_raw.ensures.machine;
     }
 

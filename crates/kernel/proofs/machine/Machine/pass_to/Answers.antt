@@ -10,7 +10,7 @@ returns-clause-passed g c =
     let e = c.pass_box-way.ensures in
     let old = c.args.self.now in
     passed_shown _ old.parts.items c.args.server.0 c.index_mut.result.now (rw length-map at c.requires.ready.ready.there) c.index_mut.ensures.value c.requires.ready.number
-    old.tick old.counters.since old.counters.counts old.draining (wires_of (map part_shown old.platform.items)) old.router
+    old.tick old.counters.since old.counters.counts old.trace old.draining (wires_of (map part_shown old.platform.items)) old.router
     c.args.packet.now old.out c.for_sender.new.self c.pass_box-way.new.out old.queue c.pass_box-way.new.q c.pass_box-way.new.part
     c.for_sender.ensures e.state e.events e.out
 

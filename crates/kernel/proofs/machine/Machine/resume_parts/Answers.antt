@@ -20,6 +20,7 @@ loop-i-init g c = record {
   out = refl;
   counters = refl;
   router = refl;
+  trace = refl;
   draining = refl;
 }
 
@@ -49,6 +50,7 @@ loop-i-preserved g c =
       out = i.out;
       counters = i.counters;
       router = i.router;
+      trace = i.trace;
       draining = i.draining;
     }
 
@@ -58,5 +60,5 @@ returns-clause-resumed g c =
     let v = c.loop-i.self.parts in
     sys_same _ _ i.tick (all_changed (λ o. resume_step o c.args.self.now.tick) c.loop-i.i _ _ _ (rw length-map (omega (arith, c.args.self.now.parts.ok.0, c.len-i-end.ensures, c.loop-i-test.false))) i.events)
     (all_commanded _ (λ o. resume_step o c.args.self.now.tick) v.items c.loop-i.i _ (omega (arith, v.ok.0, i.len, c.len-i-end.ensures, c.loop-i-test.false)) i.resumed)
-    (ap (λ (o : Out). o.next) i.out) (ap (λ (k : Counted). k.counts) i.counters) (ap (λ (k : Counted). k.since) i.counters) refl i.draining
+    (ap (λ (o : Out). o.next) i.out) (ap (λ (k : Counted). k.counts) i.counters) (ap (λ (k : Counted). k.since) i.counters) i.trace i.draining
     (ap (λ ps. wires_of (map part_shown ps.items)) i.platform) i.router

@@ -20,5 +20,6 @@ invariant-loop-i g l = record {
   out : l.self.out ≡ l.initial.self.out;
   counters : l.self.counters ≡ l.initial.self.counters;
   router : l.self.router ≡ l.initial.self.router;
+  trace : l.self.trace ≡ l.initial.self.trace;
   draining : l.self.draining ≡ l.initial.self.draining;
 }

@@ -1,14 +1,17 @@
-use Rattle.std.proofs.Common.{arith, rules, refl, ◌-◌}
-use Rattle.kernel.proofs.Runs.{begun_sys, begun_bytes, reason_is, tells_end, ends_sys, ends_bytes, ends_noted, run_to_replayed, run_more, retired_here, wrote_more, noted_more, none_before, events_running, stops_at_byte, last_reason}
+use Rattle.std.proofs.Common.{arith, rules, refl, ap, sym, ◌∙◌, ◌-◌}
+use Rattle.gc_outside.proofs.InOrder.{not_ok}
+use Rattle.kernel.specs.Shown.{Named, entries_of, sys_of}
+use Rattle.kernel.proofs.Emitted.{begun_emissions, cut_run, emitted_more, ends_emissions, step_noted, stops_in_event}
+use Rattle.kernel.proofs.Runs.{begun_sys, reason_is, tells_end, ends_sys, ends_noted, run_to_replayed, run_more, retired_here, noted_more, none_before, events_running, goes_on, last_reason}
 use Rattle.kernel.proofs.machine.Machine.run.Goals as goal
 
 pub run-init : goal.run-init
 run-init g c = record {
   ran = begun_sys _;
   none = λ k l. absurd (omega (arith, l));
-  wrote = begun_bytes _ _;
+  emitted = begun_emissions _ _ _;
   noted = refl;
-  faults = omega arith;
+  named = refl;
   counted = omega arith;
   machine = c.requires.machine;
 }
@@ -25,11 +28,11 @@ returns-in-Some-clause-ran g c =
     let n = retired_here _ _ c.run.events c.retired-start.result c.retired.result i.ran c.retired-start.ensures c.retired.ensures in
     ends_sys _ c.args.g c.run.events c.in-Some.reason (reason_is _ _ c.run.events i.ran c.args.g (c.retired.result - c.retired-start.result) _ n.1 c.in-Some.ensures) i.none _ i.ran
 
-pub returns-in-Some-clause-console : goal.returns-in-Some-clause-console
-returns-in-Some-clause-console g c =
+pub returns-in-Some-clause-emitted : goal.returns-in-Some-clause-emitted
+returns-in-Some-clause-emitted g c =
     let i = c.run.invariant in
     let n = retired_here _ _ c.run.events c.retired-start.result c.retired.result i.ran c.retired-start.ensures c.retired.ensures in
-    ends_bytes _ c.args.g c.run.events c.in-Some.reason (reason_is _ _ c.run.events i.ran c.args.g (c.retired.result - c.retired-start.result) _ n.1 c.in-Some.ensures) i.none _ _ i.wrote
+    ends_emissions _ _ c.args.g c.run.events c.in-Some.reason (reason_is _ _ c.run.events i.ran c.args.g (c.retired.result - c.retired-start.result) _ n.1 c.in-Some.ensures) i.none _ _ i.emitted
 
 pub returns-in-Some-clause-noted : goal.returns-in-Some-clause-noted
 returns-in-Some-clause-noted g c =
@@ -43,24 +46,38 @@ returns-in-Some-clause-replay g c = run_to_replayed _ _ _ c.requires.machine.sou
 pub returns-in_err-step-clause-replay : goal.returns-in_err-step-clause-replay
 returns-in_err-step-clause-replay g c = run_to_replayed _ _ _ c.requires.machine.sound
 
+pub returns-in_err-step-clause-named : goal.returns-in_err-step-clause-named
+returns-in_err-step-clause-named g c = c.step.ensures.named ∙ c.run.invariant.named
+
+pub returns-in_err-step-clause-emitted : goal.returns-in_err-step-clause-emitted
+returns-in_err-step-clause-emitted g c =
+    let i = c.run.invariant in
+    let n = retired_here _ _ c.run.events c.retired-start.result c.retired.result i.ran c.retired-start.ensures c.retired.ensures in
+    let none = reason_is _ _ c.run.events i.ran c.args.g (c.retired.result - c.retired-start.result) _ n.1 c.in_default.ensures in
+    let cut = cut_run _ _ _ _ c.run.events i.ran (ap (λ (k : Named). k.parts) i.named) _ _ _ _ i.emitted c.in_err-step.ensures.emitted c.args.g refl i.none none in
+    rw (not_ok c.from_residual.result c.from_residual.ensures.0) cut
+
 pub returns-in_err-step-clause-stopped : goal.returns-in_err-step-clause-stopped
 returns-in_err-step-clause-stopped g c =
     let i = c.run.invariant in
     let n = retired_here _ _ c.run.events c.retired-start.result c.retired.result i.ran c.retired-start.ensures c.retired.ensures in
     let none = reason_is _ _ c.run.events i.ran c.args.g (c.retired.result - c.retired-start.result) _ n.1 c.in_default.ensures in
-    let stops = stops_at_byte _ c.args.g c.run.events _ _ _ _ _ _ i.ran i.none none c.step.ensures.fired c.step.ensures.entries c.in_err-step.ensures.byte i.wrote c.in_err-step.ensures.cut in
+    let some = (goes_on c.args.g c.run.events (c.retired.result - c.retired-start.result) (sys_of (λ b. (goal.SimObject-dyn g (b.vtable, b.value)).state b.value) c.run.self) (sym c.in_default.ensures)).some in
+    let stops = stops_in_event _ _ _ _ c.run.events i.ran (ap (λ (k : Named). k.parts) i.named) _ _ _ _ i.emitted c.in_err-step.ensures.emitted c.args.g refl i.none none _ _ c.step.ensures.fired
+    (step_noted (sys_of (λ b. (goal.SimObject-dyn g (b.vtable, b.value)).state b.value) c.run.self) (entries_of c.run.self) (entries_of c.step.new.self) some c.step.ensures.entries) in
     search (rules, stops)
 
 pub run-preserved : goal.run-preserved
 run-preserved g c =
     let i = c.run.invariant in
+    let some = (goes_on c.args.g c.run.events (c.retired.result - c.retired-start.result) (sys_of (λ b. (goal.SimObject-dyn g (b.vtable, b.value)).state b.value) c.run.self) (sym c.in_default.ensures)).some in
     let n = retired_here _ _ c.run.events c.retired-start.result c.retired.result i.ran c.retired-start.ensures c.retired.ensures in
     record {
       ran = run_more _ _ c.run.events i.ran _ c.step.ensures.fired;
       none = none_before c.args.g _ c.run.events i.none (reason_is _ _ c.run.events i.ran c.args.g (c.retired.result - c.retired-start.result) _ n.1 c.in_default.ensures);
-      wrote = wrote_more _ _ c.run.events i.ran _ _ _ i.wrote c.in_ok-step.ensures.console;
-      noted = noted_more _ _ c.run.events i.ran _ _ c.step.ensures.entries;
-      faults = omega (arith, i.faults, c.step.ensures.count);
+      emitted = emitted_more _ _ _ _ c.run.events i.ran (ap (λ (k : Named). k.parts) i.named) _ _ _ _ i.emitted c.in_ok-step.ensures.emitted;
+      noted = noted_more _ _ c.run.events i.ran _ _ (step_noted (sys_of (λ b. (goal.SimObject-dyn g (b.vtable, b.value)).state b.value) c.run.self) (entries_of c.run.self) (entries_of c.step.new.self) some c.step.ensures.entries);
+      named = c.step.ensures.named ∙ i.named;
       counted = omega (arith, i.counted, events_running _ _ i.machine.sound c.args.g c.run.events (c.retired.result - c.retired-start.result) c.in_default.ensures _ c.step.ensures.fired);
       machine = c.step.ensures.machine;
     }
@@ -78,11 +95,11 @@ returns-clause-ran g c =
     let n = retired_here _ _ c.run.events c.retired-start.result c.retired-2.result i.ran c.retired-start.ensures c.retired-2.ensures in
     ends_sys _ c.args.g c.run.events c.in-Some-reason.reason (last_reason _ _ c.run.events i.ran c.args.g (c.retired-2.result - c.retired-start.result) _ n.1 c.in-Some-reason.ensures (omega (arith, c.run-test.false))) i.none _ i.ran
 
-pub returns-clause-console : goal.returns-clause-console
-returns-clause-console g c =
+pub returns-clause-emitted : goal.returns-clause-emitted
+returns-clause-emitted g c =
     let i = c.run.invariant in
     let n = retired_here _ _ c.run.events c.retired-start.result c.retired-2.result i.ran c.retired-start.ensures c.retired-2.ensures in
-    ends_bytes _ c.args.g c.run.events c.in-Some-reason.reason (last_reason _ _ c.run.events i.ran c.args.g (c.retired-2.result - c.retired-start.result) _ n.1 c.in-Some-reason.ensures (omega (arith, c.run-test.false))) i.none _ _ i.wrote
+    ends_emissions _ _ c.args.g c.run.events c.in-Some-reason.reason (last_reason _ _ c.run.events i.ran c.args.g (c.retired-2.result - c.retired-start.result) _ n.1 c.in-Some-reason.ensures (omega (arith, c.run-test.false))) i.none _ _ i.emitted
 
 pub returns-clause-noted : goal.returns-clause-noted
 returns-clause-noted g c =

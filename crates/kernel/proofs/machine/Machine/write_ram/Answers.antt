@@ -22,6 +22,7 @@ loop-i-init g c = record {
   out = refl;
   counters = refl;
   router = refl;
+  trace = refl;
   draining = refl;
 }
 
@@ -50,6 +51,7 @@ loop-i-preserved g c =
       out = i.out;
       counters = i.counters;
       router = i.router;
+      trace = i.trace;
       draining = i.draining;
     }
 
@@ -59,5 +61,5 @@ returns-clause-raw g c =
     let v = c.loop-i.self.parts in
     sys_same _ _ i.tick (ap (λ (q : Queue). q.pending) i.queue)
     (all_commanded _ (put_command c.args.at c.args.from.now) v.items c.loop-i.i _ (omega (arith, v.ok.0, i.len, c.len-i-end.ensures, c.loop-i-test.false)) (i.done ∙ ap (λ n. map (λ o. with_own_bytes n c.args.from.now o) (map (λ b. (goal.SimObject-dyn g (b.vtable, b.value)).state b.value) c.args.self.now.parts.items)) (let e : c.args.at ≡ ram_base + c.args.at - ram_base = omega arith in e)))
-    (ap (λ (o : Out). o.next) i.out) (ap (λ (k : Counted). k.counts) i.counters) (ap (λ (k : Counted). k.since) i.counters) refl i.draining
+    (ap (λ (o : Out). o.next) i.out) (ap (λ (k : Counted). k.counts) i.counters) (ap (λ (k : Counted). k.since) i.counters) i.trace i.draining
     (ap (λ ps. wires_of (map part_shown ps.items)) i.platform) i.router

@@ -2,7 +2,7 @@ use Rattle.std.proofs.Common.{◌≡◌, [], true, sym, ◌∙◌, subst, arith}
 use Rattle.rv_step.specs.Run.{FlatState, flat_run}
 use Rattle.gc_outside.specs.Emits.{Emits}
 use Rattle.session.specs.Run.{state_with}
-use Rattle.session.proofs.EmissionLemmas.{not_ok}
+use Rattle.gc_outside.proofs.InOrder.{not_ok}
 use Rattle.session.proofs.RunLemmas.{follows-start, follows-step, follows-cut, follows-over}
 use Rattle.session.proofs.flat_run.FlatRun.run.Goals as goal
 

@@ -1,9 +1,9 @@
 -- What a call writes: one list of emissions, in their order. Source: this project's own rule.
-use Rattle.std.specs.Prelude.{◌≡◌, ℕ, ◌≤◌, ◌⊎◌, Bool, true, false, List, [], ◌∷◌, ◌++◌}
+use Rattle.std.specs.Prelude.{◌≡◌, ℕ, ◌≤◌, ◌⊎◌, Bool, true, false, List, [], ◌∷◌, ◌++◌, map}
 use Rattle.gc_outside.specs.Faults.{Rose}
 use Rattle.gc_outside.specs.Sink.{Appends}
 use Rattle.gc_outside.specs.Told.{Told}
-use Rattle.session.specs.Outside.{Sinks}
+use Rattle.gc_outside.specs.Sinks.{SinkSeen, Sinks}
 
 -- bytes for one of the two sinks
 pub data Emission : Type 0 where
@@ -18,6 +18,10 @@ bytes_of (ToReport bytes) = bytes
 abbrev pub with_bytes : Emission → List ℕ → Emission
 with_bytes (ToConsole bytes) others = ToConsole others
 with_bytes (ToReport bytes) others = ToReport others
+
+-- lines for the report, each in an emission of its own
+abbrev pub line_emissions : List (List ℕ) → List Emission
+line_emissions lines = map (λ l. ToReport l) lines
 
 -- what emissions bring to the console
 abbrev pub console_bytes : List Emission → List ℕ
@@ -58,3 +62,12 @@ pub record EmitsInOrder (emissions : List Emission) (ok : Bool) (old new : Sinks
   pub cause : ok ≡ false → SinkFailed old new
   pub console_count : old.console.faults ≤ new.console.faults
   pub report_count : old.report.faults ≤ new.report.faults
+
+-- the same of a call that has the console alone, or the report alone: the other one stays as it is
+abbrev pub EmitsToConsole : List Emission → Bool → SinkSeen → SinkSeen → Type 0
+EmitsToConsole emissions ok old new =
+    (report : SinkSeen) → EmitsInOrder emissions ok (record { console = old; report = report }) (record { console = new; report = report })
+
+abbrev pub EmitsToReport : List Emission → Bool → SinkSeen → SinkSeen → Type 0
+EmitsToReport emissions ok old new =
+    (console : SinkSeen) → EmitsInOrder emissions ok (record { console = console; report = old }) (record { console = console; report = new })
