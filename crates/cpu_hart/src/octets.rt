@@ -2,7 +2,7 @@
 ghost use Rattle.std.specs.Prelude.{◌≡◌, ◌≤◌, ◌<◌, ◌^◌, length, take};
 ghost use Rattle.rv_step.specs.Bytes.{number, bytes_of};
 ghost use Rattle.rv_step.specs.Width.{IsSize};
-ghost use Rattle.gm_words.specs.Packet.{with_front};
+ghost use Rattle.pkt_pool.specs.Packet.{with_front};
 
 /// The number of the first 4 bytes.
 #[inline(always)]

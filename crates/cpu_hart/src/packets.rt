@@ -1,7 +1,7 @@
 // The requests of a CPU.
 ghost use Rattle.std.specs.Prelude.{◌≡◌, ◌<◌, ◌≤◌, ◌^◌, []};
 ghost use Rattle.rv_step.specs.Width.{IsSize};
-ghost use Rattle.gm_words.specs.Packet.{request as request_of};
+ghost use Rattle.pkt_pool.specs.Packet.{request as request_of};
 ghost use Rattle.gm_words.specs.Platform.{is_in_ram};
 ghost use Rattle.gm_model.specs.Accesses.{fetch_request, load_request, store_request};
 

@@ -6,17 +6,17 @@ use Rattle.std.proofs.lemmas.List.{append-nil}
 use Rattle.rv_step.specs.FlatMem.{in_ram}
 use Rattle.rv_step.specs.Flat.{uart_base}
 use Rattle.gm_model.specs.ObjState.{Device, device_kind}
-use Rattle.gm_words.specs.Packet.{is_response, read_response, write_response, fault_response, carried_bytes, is_write}
+use Rattle.pkt_pool.specs.Packet.{is_response, read_response, write_response, fault_response, carried_bytes, is_write}
 use Rattle.gm_words.specs.Platform.{slot_classes}
 use Rattle.gm_words.specs.Routes.{Route, is_unmapped}
 use Rattle.gm_model.specs.Serve.{Served, served, ignored, refused}
 use Rattle.gm_words.specs.Entries.{served_entries, console_of, entry_bytes}
 use Rattle.gm_words.specs.Changes.{Change, due_after}
 use Rattle.gm_model.specs.View.{device_view}
-use Rattle.gm_words.specs.declared.cmd.Cmd.{Cmd}
-use Rattle.gm_words.specs.declared.cmd.Cmd.TheVariants as cmds
+use Rattle.pkt_pool.specs.declared.cmd.Cmd.{Cmd}
+use Rattle.pkt_pool.specs.declared.cmd.Cmd.TheVariants as cmds
 use Rattle.gm_words.specs.declared.entry.Entry.{Entry}
-use Rattle.gm_words.specs.declared.packet.Packet.{Packet}
+use Rattle.pkt_pool.specs.declared.packet.Packet.{Packet}
 use Rattle.gm_laws.specs.Faces.{device_due, device_range}
 use Rattle.gm_laws.specs.Program.{IsService, device_read, device_written, unchanged, Serves, none, serves, seen}
 use Rattle.gm_words.specs.declared.entry.Entry.TheVariants as entries

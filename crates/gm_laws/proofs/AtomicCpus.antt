@@ -13,7 +13,7 @@ use Rattle.gm_model.specs.Accesses.{fetch_request, load_request, store_request}
 use Rattle.gm_model.specs.AtomicCpu.{cpu_ends, cpu_asks, cpu_begins, cpu_event, cpu_fetched, cpu_accessed, cpu_done, cpu_line, cpu_lined, goes_on, atomic_cpu_step}
 use Rattle.gm_words.specs.HartLine.{with_line, next_multiple}
 use Rattle.gm_model.specs.ObjState.{AtomicCpu, AtomicCpuState, CpuStage, Rest, AwaitFetch, AwaitData}
-use Rattle.gm_words.specs.Packet.{is_response}
+use Rattle.pkt_pool.specs.Packet.{is_response}
 use Rattle.gm_words.specs.Platform.{is_in_ram}
 use Rattle.gm_words.specs.Routes.{Route}
 use Rattle.gm_model.specs.Stepped.{Stepped, answering, stays}
@@ -25,7 +25,7 @@ use Rattle.gm_words.specs.declared.act.Act.TheVariants as acts
 use Rattle.gm_words.specs.declared.answer.Answer.TheVariants as answers
 use Rattle.gm_words.specs.declared.entry.Entry.{Entry}
 use Rattle.gm_words.specs.declared.entry.Entry.TheVariants as entries
-use Rattle.gm_words.specs.declared.packet.Packet.{Packet}
+use Rattle.pkt_pool.specs.declared.packet.Packet.{Packet}
 use Rattle.gm_words.specs.declared.wake.Wake.{Wake}
 use Rattle.gm_words.specs.declared.wake.Wake.TheVariants as wakes
 use Rattle.gm_laws.specs.Words.{weigh, IsIn, offer_out, offers, calls, requests_of, responses_of}

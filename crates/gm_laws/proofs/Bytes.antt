@@ -21,7 +21,7 @@ use Rattle.rv_step.specs.Arch.{reg}
 use Rattle.rv_step.specs.Group.{group_of}
 use Rattle.rv_table.specs.Table.{decode_of}
 use Rattle.rv_table.specs.declared.inst.Inst.{Inst}
-use Rattle.gm_words.specs.Packet.{with_front}
+use Rattle.pkt_pool.specs.Packet.{with_front}
 use Rattle.gm_words.specs.Entries.{entry_bytes, ram_bytes}
 use Rattle.gm_words.specs.Routes.{Route}
 use Rattle.gm_words.specs.Replay.{same_bytes, replay, replay_entry, when, ProgramState}

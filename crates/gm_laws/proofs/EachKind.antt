@@ -2,12 +2,12 @@
 use Rattle.std.proofs.Common.{◌≡◌, ℕ, ◌≤◌, is_some, true, false, List, [], ◌∷◌, refl, arith, inl, Option, Some, None, option_map}
 use Rattle.rv_step.specs.declared.arch.Arch.{Arch}
 use Rattle.gm_words.specs.Moves.{no_moves}
-use Rattle.gm_words.specs.Packet.{is_response}
+use Rattle.pkt_pool.specs.Packet.{is_response}
 use Rattle.gm_words.specs.Routes.{Route}
 use Rattle.gm_words.specs.declared.answer.Answer.TheVariants as answers
 use Rattle.gm_words.specs.declared.kind.Kind.{Kind}
 use Rattle.gm_words.specs.declared.kind.Kind.TheVariants as kinds
-use Rattle.gm_words.specs.declared.packet.Packet.{Packet}
+use Rattle.pkt_pool.specs.declared.packet.Packet.{Packet}
 use Rattle.gm_words.specs.declared.wake.Wake.{Wake}
 use Rattle.gm_words.specs.declared.wake.Wake.TheVariants as wakes
 use Rattle.gm_model.specs.Command.{arch_of}

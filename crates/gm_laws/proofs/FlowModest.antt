@@ -5,7 +5,7 @@ use Rattle.gm_words.specs.Allowed.{MayPass}
 use Rattle.gm_words.specs.Changes.{Change, Schedule, Remove}
 use Rattle.gm_words.specs.Flow.{Queued, OutState, Quiet, Due, Asked, Waits, Flow, Lane}
 use Rattle.gm_words.specs.declared.act.Act.{Act}
-use Rattle.gm_words.specs.declared.packet.Packet.{Packet}
+use Rattle.pkt_pool.specs.declared.packet.Packet.{Packet}
 use Rattle.gm_model.specs.Flows.{Outlet, Moved, LaneMoved, put_in, ask_in, hold_in, again_in, gone_in, next_in, moved, open_in, taken_in}
 use Rattle.gm_model.specs.View.{queued_packets}
 use Rattle.gm_laws.specs.Bounds.{AreOwnChanges, AreTimely, AreFit, latest, speech}

@@ -7,7 +7,7 @@ use Rattle.gm_words.specs.Changes.{Change, Schedule, due_after}
 use Rattle.gm_model.specs.View.{queued_packets}
 use Rattle.gm_words.specs.declared.act.Act.{Act}
 use Rattle.gm_words.specs.declared.act.Act.TheVariants as acts
-use Rattle.gm_words.specs.declared.packet.Packet.{Packet}
+use Rattle.pkt_pool.specs.declared.packet.Packet.{Packet}
 use Rattle.gm_words.specs.declared.wake.Wake.{Wake}
 use Rattle.gm_words.specs.declared.wake.Wake.TheVariants as wakes
 use Rattle.gm_laws.specs.Words.{offers, calls, IsIn, told, taken, refused, retry, offer_out, weigh}

@@ -4,7 +4,7 @@ use Rattle.gm_words.specs.HartLine.{is_line}
 use Rattle.gm_words.specs.declared.act.Act.{Act}
 use Rattle.gm_words.specs.declared.act.Act.TheVariants as acts
 use Rattle.gm_words.specs.declared.answer.Answer.{Answer}
-use Rattle.gm_words.specs.declared.packet.Packet.{Packet}
+use Rattle.pkt_pool.specs.declared.packet.Packet.{Packet}
 use Rattle.gm_words.specs.declared.wake.Wake.{Wake}
 use Rattle.gm_model.specs.Stepped.{line_change}
 use Rattle.gm_laws.specs.Bounds.{AreFit, speech}

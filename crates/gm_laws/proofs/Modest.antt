@@ -12,7 +12,7 @@ use Rattle.gm_words.specs.HartLine.{next_multiple}
 use Rattle.gm_words.specs.Platform.{is_in_ram}
 use Rattle.gm_words.specs.declared.kind.Kind.{Kind}
 use Rattle.gm_words.specs.declared.entry.Entry.{Entry}
-use Rattle.gm_words.specs.declared.packet.Packet.{Packet}
+use Rattle.pkt_pool.specs.declared.packet.Packet.{Packet}
 use Rattle.gm_words.specs.declared.wake.Wake.{Wake}
 use Rattle.gm_words.specs.declared.wake.Wake.TheVariants as wakes
 use Rattle.gm_model.specs.AtomicCpu.{cpu_ends, cpu_asks, cpu_begins, cpu_event, cpu_fetched, cpu_accessed, cpu_done, cpu_line, cpu_lined, goes_on}

@@ -9,15 +9,15 @@ use Rattle.gm_words.specs.Changes.{Change, Schedule}
 use Rattle.gm_words.specs.Entries.{console_of}
 use Rattle.gm_words.specs.Flow.{Queued}
 use Rattle.gm_words.specs.Moves.{Moves, AreDrawn, no_moves}
-use Rattle.gm_words.specs.Packet.{read_response, write_response, is_write_back}
+use Rattle.pkt_pool.specs.Packet.{read_response, write_response, is_write_back}
 use Rattle.gm_words.specs.Platform.{slot_classes, serve_slot, own_slot, device_class}
 use Rattle.gm_words.specs.declared.act.Act.{Act}
 use Rattle.gm_words.specs.declared.answer.Answer.{Answer}
 use Rattle.gm_words.specs.declared.answer.Answer.TheVariants as answers
-use Rattle.gm_words.specs.declared.cmd.Cmd.{Cmd}
-use Rattle.gm_words.specs.declared.cmd.Cmd.TheVariants as cmds
+use Rattle.pkt_pool.specs.declared.cmd.Cmd.{Cmd}
+use Rattle.pkt_pool.specs.declared.cmd.Cmd.TheVariants as cmds
 use Rattle.gm_words.specs.declared.entry.Entry.{Entry}
-use Rattle.gm_words.specs.declared.packet.Packet.{Packet}
+use Rattle.pkt_pool.specs.declared.packet.Packet.{Packet}
 use Rattle.gm_words.specs.declared.wake.Wake.{Wake}
 use Rattle.gm_words.specs.declared.wake.Wake.TheVariants as wakes
 use Rattle.gm_model.specs.ExitDevice.{serve_exit}

@@ -6,7 +6,7 @@ use Rattle.gc_base.specs.declared.ids.SlotNo.{SlotNo}
 use Rattle.gm_model.specs.Flows.{Outlet, Moved, LaneMoved, asked_bit, waits_bit, is_due_out, head_of, put_in, ask_in, hold_in, again_in, gone_in, moved, open_in, opened, taken_in, has_room, is_some_port, answer_of, refusal_of, joined_once}
 use Rattle.gm_model.specs.ObjState.{Server, ServerState, Device, Memory, Uart, Exit, Timer}
 use Rattle.gm_words.specs.Flow.{OutState, Quiet, Due, Asked, Waits, Queued, Flow, Lane}
-use Rattle.gm_words.specs.Packet.{is_response, is_write_back}
+use Rattle.pkt_pool.specs.Packet.{is_response, is_write_back}
 use Rattle.gm_words.specs.Platform.{is_within}
 use Rattle.gm_words.specs.Routes.{Route}
 use Rattle.gm_model.specs.Serve.{Served}
@@ -20,11 +20,11 @@ use Rattle.gm_model.specs.Xbar.{lane_at}
 use Rattle.gm_words.specs.declared.act.Act.{Act}
 use Rattle.gm_words.specs.declared.answer.Answer.{Answer}
 use Rattle.gm_words.specs.declared.answer.Answer.TheVariants as answers
-use Rattle.gm_words.specs.declared.cmd.Cmd.{Cmd}
-use Rattle.gm_words.specs.declared.cmd.Cmd.TheVariants as cmds
+use Rattle.pkt_pool.specs.declared.cmd.Cmd.{Cmd}
+use Rattle.pkt_pool.specs.declared.cmd.Cmd.TheVariants as cmds
 use Rattle.gm_words.specs.declared.entry.Entry.{Entry}
 use Rattle.gm_words.specs.declared.entry.Entry.TheVariants as entries
-use Rattle.gm_words.specs.declared.packet.Packet.{Packet}
+use Rattle.pkt_pool.specs.declared.packet.Packet.{Packet}
 use Rattle.gm_words.specs.declared.wake.Wake.{Wake}
 use Rattle.gm_words.specs.declared.wake.Wake.TheVariants as wakes
 use Rattle.gm_laws.specs.Words.{only, weigh, told, refused, retry, shown, offers, requests_of, responses_of}

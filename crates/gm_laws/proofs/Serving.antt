@@ -6,7 +6,8 @@ use Rattle.std.proofs.lemmas.List.{length-replicate}
 use Rattle.rv_step.specs.FlatMem.{in_ram, ram_put}
 use Rattle.rv_step.specs.Flat.{in_uart, in_exit, uart_base}
 use Rattle.gm_model.specs.ObjState.{Device, Memory, Uart, Exit, UartState, Timer}
-use Rattle.gm_words.specs.Packet.{is_response, read_response, write_response, carried_bytes, carried_number, is_write_back}
+use Rattle.pkt_pool.specs.Packet.{is_response, read_response, write_response, carried_bytes, is_write_back}
+use Rattle.gm_words.specs.Numbers.{carried_number}
 use Rattle.gm_words.specs.Platform.{is_within}
 use Rattle.gm_words.specs.Routes.{Route, is_unmapped}
 use Rattle.gm_model.specs.Serve.{Served, served, ignored}
@@ -16,9 +17,9 @@ use Rattle.gm_model.specs.Uart.{serve_uart, first_byte, line_status}
 use Rattle.gm_model.specs.ExitDevice.{serve_exit, kept_code}
 use Rattle.gm_words.specs.Entries.{ram_bytes, served_entries}
 use Rattle.gm_words.specs.Changes.{Schedule, due_after}
-use Rattle.gm_words.specs.declared.cmd.Cmd.{Cmd}
-use Rattle.gm_words.specs.declared.cmd.Cmd.TheVariants as cmds
-use Rattle.gm_words.specs.declared.packet.Packet.{Packet}
+use Rattle.pkt_pool.specs.declared.cmd.Cmd.{Cmd}
+use Rattle.pkt_pool.specs.declared.cmd.Cmd.TheVariants as cmds
+use Rattle.pkt_pool.specs.declared.packet.Packet.{Packet}
 use Rattle.gm_laws.specs.Faces.{device_due, device_range}
 use Rattle.gm_laws.specs.Program.{read, written, device_read, device_written}
 use Rattle.gm_laws.proofs.Answering.{ServeFacts, one_serves, outside, ignored_facts, read_facts, write_facts, refused_read, refused_write}

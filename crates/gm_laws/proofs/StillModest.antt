@@ -2,7 +2,7 @@
 use Rattle.std.proofs.Common.{ℕ, refl, arith}
 use Rattle.gm_words.specs.declared.answer.Answer.{Answer}
 use Rattle.gm_words.specs.declared.answer.Answer.TheVariants as answers
-use Rattle.gm_words.specs.declared.packet.Packet.{Packet}
+use Rattle.pkt_pool.specs.declared.packet.Packet.{Packet}
 use Rattle.gm_words.specs.declared.wake.Wake.{Wake}
 use Rattle.gm_model.specs.ObjState.{ObjState}
 use Rattle.gm_model.specs.Stepped.{Stepped, stays, drops, answering}

@@ -7,14 +7,15 @@ use Rattle.rv_step.specs.Bytes.{bytes_of}
 use Rattle.rv_step.specs.FlatMem.{in_ram}
 use Rattle.gc_base.specs.declared.limits.TheConstants.{LAST}
 use Rattle.gm_words.specs.Changes.{due_after}
-use Rattle.gm_words.specs.Packet.{is_response, is_write_back, read_response, write_response, carried_number}
+use Rattle.pkt_pool.specs.Packet.{is_response, is_write_back, read_response, write_response}
+use Rattle.gm_words.specs.Numbers.{carried_number}
 use Rattle.gm_words.specs.Platform.{slot_classes}
 use Rattle.gm_words.specs.Routes.{Route, is_unmapped}
 use Rattle.gm_words.specs.declared.act.Act.TheVariants as acts
-use Rattle.gm_words.specs.declared.cmd.Cmd.{Cmd}
-use Rattle.gm_words.specs.declared.cmd.Cmd.TheVariants as cmds
+use Rattle.pkt_pool.specs.declared.cmd.Cmd.{Cmd}
+use Rattle.pkt_pool.specs.declared.cmd.Cmd.TheVariants as cmds
 use Rattle.gm_words.specs.declared.kind.Kind.TheVariants as kinds
-use Rattle.gm_words.specs.declared.packet.Packet.{Packet}
+use Rattle.pkt_pool.specs.declared.packet.Packet.{Packet}
 use Rattle.gm_model.specs.ObjState.{Timer, TimerState}
 use Rattle.gm_model.specs.Serve.{served, refused}
 use Rattle.gm_model.specs.Stepped.{line_change}

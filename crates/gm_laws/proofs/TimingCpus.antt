@@ -13,7 +13,7 @@ use Rattle.rv_step.specs.Trap.{enter_trap, interrupt_cause}
 use Rattle.gm_words.specs.Changes.{Change, due_after}
 use Rattle.gm_words.specs.HartLine.{with_line}
 use Rattle.gm_words.specs.Moves.{Moves, no_moves}
-use Rattle.gm_words.specs.Packet.{is_response}
+use Rattle.pkt_pool.specs.Packet.{is_response}
 use Rattle.gm_words.specs.Platform.{is_in_ram}
 use Rattle.gm_words.specs.Routes.{Route}
 use Rattle.gm_words.specs.declared.act.Act.{Act}
@@ -21,7 +21,7 @@ use Rattle.gm_words.specs.declared.answer.Answer.{Answer}
 use Rattle.gm_words.specs.declared.answer.Answer.TheVariants as answers
 use Rattle.gm_words.specs.declared.entry.Entry.{Entry}
 use Rattle.gm_words.specs.declared.entry.Entry.TheVariants as entries
-use Rattle.gm_words.specs.declared.packet.Packet.{Packet}
+use Rattle.pkt_pool.specs.declared.packet.Packet.{Packet}
 use Rattle.gm_words.specs.declared.wake.Wake.{Wake}
 use Rattle.gm_words.specs.declared.wake.Wake.TheVariants as wakes
 use Rattle.gm_model.specs.Accesses.{fetch_request, load_request, store_request}

@@ -1,16 +1,17 @@
 -- What weights say of packets: where the hart waits for one, all that the program sees of the packets under way is that one.
 use Rattle.std.proofs.Common.{◌≡◌, ℕ, ◌+◌, ◌≤◌, refl, sym, ◌∙◌, ap, subst, arith, Bool, true, false, not, cond, ◌&&◌, ◌==◌, zero, suc, List, [], ◌∷◌, ◌++◌, Option, Some, None}
-use Rattle.gm_words.specs.Packet.{is_response, carried_number, response_number}
+use Rattle.pkt_pool.specs.Packet.{is_response}
+use Rattle.gm_words.specs.Numbers.{carried_number, response_number}
 use Rattle.gm_words.specs.Routes.{Route, is_unmapped}
 use Rattle.gm_model.specs.View.{Mind, Doing, Boundary, Fetching, Decoded, Accessing, is_of_hart, awaited, progress_of}
-use Rattle.gm_words.specs.declared.packet.Packet.{Packet}
+use Rattle.pkt_pool.specs.declared.packet.Packet.{Packet}
 use Rattle.gm_laws.specs.Words.{weigh, IsBlind}
 use Rattle.gm_laws.specs.Program.{bit, core, owed, bad, suits, content_of, is_access, is_fetch}
 use Rattle.rv_step.specs.declared.demand.Demand.{Demand}
 use Rattle.rv_step.specs.declared.demand.Demand.TheVariants as demand
 use Rattle.rv_step.specs.Demand.{need}
 use Rattle.gm_words.specs.Platform.{is_in_ram}
-use Rattle.gm_words.specs.declared.cmd.Cmd.TheVariants as cmds
+use Rattle.pkt_pool.specs.declared.cmd.Cmd.TheVariants as cmds
 
 pub weigh-append : (f : Packet → ℕ) (xs ys : List Packet) → weigh f (xs ++ ys) ≡ weigh f xs + weigh f ys
 weigh-append f [] ys = omega arith

@@ -9,13 +9,13 @@ use Rattle.gm_words.specs.Changes.{Change}
 use Rattle.gm_words.specs.Entries.{console_of}
 use Rattle.gm_words.specs.Flow.{OutState, Quiet, Due, Asked, Waits, Queued, Lane, quiet_flow, empty_lane}
 use Rattle.gm_words.specs.Moves.{Moves, AreDrawn, no_moves}
-use Rattle.gm_words.specs.Packet.{is_response, is_write_back, fault_response, popped, top_port}
+use Rattle.pkt_pool.specs.Packet.{is_response, is_write_back, fault_response, popped, top_port}
 use Rattle.gm_words.specs.PortUses.{is_total, port_from, source_port, xbar_classes, slot_of_port, class_of_port, port_of_slot, side_slot, is_side_slot, request_class}
 use Rattle.gm_words.specs.declared.act.Act.{Act}
 use Rattle.gm_words.specs.declared.answer.Answer.{Answer}
 use Rattle.gm_words.specs.declared.answer.Answer.TheVariants as answers
 use Rattle.gm_words.specs.declared.entry.Entry.{Entry}
-use Rattle.gm_words.specs.declared.packet.Packet.{Packet}
+use Rattle.pkt_pool.specs.declared.packet.Packet.{Packet}
 use Rattle.gm_words.specs.declared.wake.Wake.{Wake}
 use Rattle.gm_words.specs.declared.wake.Wake.TheVariants as wakes
 use Rattle.gm_model.specs.Flows.{Moved, LaneMoved, still, put_in, ask_in, hold_in, again_in, gone_in, next_in, moved, opened, taken_in, has_room, answer_of, refusal_of}

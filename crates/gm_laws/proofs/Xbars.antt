@@ -6,17 +6,17 @@ use Rattle.gc_base.specs.declared.ids.SlotNo.{SlotNo}
 use Rattle.gm_words.specs.Changes.{Change, Schedule, due_after}
 use Rattle.gm_words.specs.Flow.{OutState, Quiet, Due, Asked, Waits, Queued, Flow, Lane, empty_lane, quiet_flow}
 use Rattle.gm_words.specs.Moves.{Moves, no_moves}
-use Rattle.gm_words.specs.Packet.{is_response, is_write_back, fault_response, popped, top_port}
+use Rattle.pkt_pool.specs.Packet.{is_response, is_write_back, fault_response, popped, top_port}
 use Rattle.gm_words.specs.PortUses.{takes, is_source, is_destination, is_total, sides, use_at, port_from, source_port, slot_of_port, port_of_slot, side_slot, is_side_slot, request_class}
 use Rattle.gm_words.specs.Routes.{Route, is_unmapped}
 use Rattle.gm_words.specs.declared.act.Act.{Act}
 use Rattle.gm_words.specs.declared.answer.Answer.{Answer}
 use Rattle.gm_words.specs.declared.answer.Answer.TheVariants as answers
-use Rattle.gm_words.specs.declared.cmd.Cmd.{Cmd}
-use Rattle.gm_words.specs.declared.cmd.Cmd.TheVariants as cmds
+use Rattle.pkt_pool.specs.declared.cmd.Cmd.{Cmd}
+use Rattle.pkt_pool.specs.declared.cmd.Cmd.TheVariants as cmds
 use Rattle.gm_words.specs.declared.entry.Entry.{Entry}
 use Rattle.gm_words.specs.declared.entry.Entry.TheVariants as entries
-use Rattle.gm_words.specs.declared.packet.Packet.{Packet}
+use Rattle.pkt_pool.specs.declared.packet.Packet.{Packet}
 use Rattle.gm_words.specs.declared.port_use.PortUse.{PortUse}
 use Rattle.gm_words.specs.declared.port_use.PortUse.TheVariants as uses
 use Rattle.gm_words.specs.declared.wake.Wake.{Wake}

@@ -5,7 +5,7 @@ use Rattle.gm_words.specs.Moves.{Moves}
 use Rattle.gm_model.specs.View.{Mind, act_packets}
 use Rattle.gm_words.specs.declared.act.Act.{Act}
 use Rattle.gm_words.specs.declared.answer.Answer.{Answer}
-use Rattle.gm_words.specs.declared.packet.Packet.{Packet}
+use Rattle.pkt_pool.specs.declared.packet.Packet.{Packet}
 use Rattle.gm_words.specs.declared.wake.Wake.{Wake}
 use Rattle.gm_words.specs.declared.wake.Wake.TheVariants as wakes
 use Rattle.gm_laws.specs.Words.{offers, calls, told, taken, refused, retry, shown, rejected, IsIn, offer_out, IsBlind, weigh, requests_of, responses_of, where_taken}

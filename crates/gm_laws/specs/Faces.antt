@@ -2,7 +2,7 @@
 use Rattle.std.specs.Prelude.{◌≡◌, ℕ, ◌+◌, ◌<◌, ◌≤◌, ◌==◌, ◌&&◌, ◌||◌, nat_lt, Bool, true, false, not, if◌then◌else◌, List, [], ◌∷◌, length, sum_by, Option, Some, None}
 use Rattle.rv_step.specs.FlatMem.{ram_base}
 use Rattle.rv_step.specs.Flat.{uart_base, exit_base}
-use Rattle.gm_words.specs.Packet.{is_response}
+use Rattle.pkt_pool.specs.Packet.{is_response}
 use Rattle.gm_words.specs.Flow.{Queued, OutState, Quiet, Due, Asked, Waits, Lane}
 use Rattle.gm_words.specs.Platform.{Range, range_of, is_within, cpu_slot, serve_slot, own_slot, timer_base}
 use Rattle.gm_words.specs.PortUses.{takes, is_source, is_destination, use_at, port_from, source_port, port_of_slot, is_side_slot, is_total, sides}
@@ -17,7 +17,7 @@ use Rattle.gm_model.specs.Xbar.{lane_at, layer_of}
 use Rattle.gm_model.specs.Stepped.{Stepped}
 use Rattle.gm_model.specs.View.{Mind, mind_with, atomic_doing, timing_doing, stage_packets, lane_packets, queued_packets, device_view}
 use Rattle.gm_model.specs.Deliver.{Item, Sent, Done}
-use Rattle.gm_words.specs.declared.packet.Packet.{Packet}
+use Rattle.pkt_pool.specs.declared.packet.Packet.{Packet}
 use Rattle.gm_words.specs.declared.port_use.PortUse.{PortUse}
 use Rattle.gm_words.specs.declared.port_use.PortUse.TheVariants as uses
 use Rattle.gm_words.specs.declared.act.Act.{Act}

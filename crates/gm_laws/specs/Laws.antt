@@ -1,9 +1,9 @@
 -- All that the theorems on machines ask of the parts, whichever kinds they are of. This project's own laws.
 use Rattle.std.specs.Prelude.{◌≡◌, ℕ, ◌+◌, ◌≤◌, ◌<◌, true, false, List, [], ◌∷◌, length, None}
-use Rattle.gm_words.specs.Packet.{is_response, is_write_back}
+use Rattle.pkt_pool.specs.Packet.{is_response, is_write_back}
 use Rattle.gm_words.specs.Routes.{Route}
 use Rattle.gm_words.specs.declared.answer.Answer.TheVariants as answers
-use Rattle.gm_words.specs.declared.packet.Packet.{Packet}
+use Rattle.pkt_pool.specs.declared.packet.Packet.{Packet}
 use Rattle.gm_words.specs.declared.wake.Wake.{Wake}
 use Rattle.gm_words.specs.declared.wake.Wake.TheVariants as wakes
 use Rattle.gm_words.specs.declared.way.Way.{Way}

@@ -10,7 +10,7 @@ use Rattle.rv_step.specs.Retire.{finish}
 use Rattle.rv_step.specs.Trap.{enter_trap, interrupt_cause, instruction_access, load_access, store_access}
 use Rattle.gm_model.specs.Accesses.{fetch_request, load_request, store_request}
 use Rattle.gm_words.specs.HartLine.{with_line, is_line}
-use Rattle.gm_words.specs.Packet.{carried_bytes, is_response, read_response, write_response}
+use Rattle.pkt_pool.specs.Packet.{carried_bytes, is_response, read_response, write_response}
 use Rattle.gm_words.specs.Platform.{is_in_ram}
 use Rattle.gm_words.specs.Replay.{same_bytes, asks_nothing}
 use Rattle.gm_words.specs.Routes.{Route, is_unmapped}
@@ -19,11 +19,11 @@ use Rattle.gm_words.specs.Moves.{Service, Moves}
 use Rattle.gm_model.specs.View.{Mind, Doing, Boundary, Fetching, Decoded, Accessing, is_of_hart}
 use Rattle.gm_words.specs.declared.act.Act.{Act}
 use Rattle.gm_words.specs.declared.answer.Answer.TheVariants as answers
-use Rattle.gm_words.specs.declared.cmd.Cmd.{Cmd}
-use Rattle.gm_words.specs.declared.cmd.Cmd.TheVariants as cmds
+use Rattle.pkt_pool.specs.declared.cmd.Cmd.{Cmd}
+use Rattle.pkt_pool.specs.declared.cmd.Cmd.TheVariants as cmds
 use Rattle.gm_words.specs.declared.entry.Entry.{Entry}
 use Rattle.gm_words.specs.declared.entry.Entry.TheVariants as entries
-use Rattle.gm_words.specs.declared.packet.Packet.{Packet}
+use Rattle.pkt_pool.specs.declared.packet.Packet.{Packet}
 use Rattle.gm_words.specs.declared.wake.Wake.{Wake}
 use Rattle.gm_words.specs.declared.wake.Wake.TheVariants as wakes
 use Rattle.gm_laws.specs.Words.{weigh}

@@ -1,10 +1,10 @@
 -- The accesses that a hart makes, as packets. This project's own rules.
 use Rattle.std.specs.Prelude.{ℕ, false, not, []}
 use Rattle.rv_step.specs.Bytes.{bytes_of}
-use Rattle.gm_words.specs.Packet.{request}
+use Rattle.pkt_pool.specs.Packet.{request}
 use Rattle.gm_words.specs.Platform.{is_in_ram, fetch_source, data_source}
-use Rattle.gm_words.specs.declared.cmd.Cmd.TheVariants as cmds
-use Rattle.gm_words.specs.declared.packet.Packet.{Packet}
+use Rattle.pkt_pool.specs.declared.cmd.Cmd.TheVariants as cmds
+use Rattle.pkt_pool.specs.declared.packet.Packet.{Packet}
 
 -- the fetch of the word at pc
 abbrev pub fetch_request : ℕ → ℕ → Packet

@@ -3,7 +3,7 @@ use Rattle.std.specs.Prelude.{ℕ, ◌+◌, ◌==◌, ◌&&◌, Bool, true, fals
 use Rattle.ev_queue.specs.declared.due.Due.{Due}
 use Rattle.gm_words.specs.Flow.{Lane}
 use Rattle.gm_words.specs.Platform.{own_slot}
-use Rattle.gm_words.specs.declared.packet.Packet.{Packet}
+use Rattle.pkt_pool.specs.declared.packet.Packet.{Packet}
 use Rattle.gm_model.specs.ObjState.{ObjState, Blank, AtomicCpu, TimingCpu, Xbar, Server, TimingStage, Between, Fetch, Ready, Data, Device, Memory, Uart, Exit, Timer}
 use Rattle.gm_model.specs.Command.{is_drained}
 use Rattle.gm_model.specs.Sys.{Sys, object_at}

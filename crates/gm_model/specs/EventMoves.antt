@@ -7,7 +7,7 @@ use Rattle.gm_words.specs.declared.way.Way.{Way}
 use Rattle.gm_words.specs.declared.way.Way.TheVariants as ways
 use Rattle.gm_words.specs.declared.act.Act.{Act}
 use Rattle.gm_words.specs.declared.act.Act.TheVariants as acts
-use Rattle.gm_words.specs.declared.packet.Packet.{Packet}
+use Rattle.pkt_pool.specs.declared.packet.Packet.{Packet}
 use Rattle.gm_words.specs.declared.wake.Wake.{Wake}
 use Rattle.gm_words.specs.declared.wake.Wake.TheVariants as wakes
 use Rattle.gm_model.specs.Sys.{Sys, peer_in, step_at, woken, pass_at, passed, active_cpu}

@@ -1,9 +1,10 @@
 -- The exit device: it keeps the first number that is written there. This project's own rules.
 use Rattle.std.specs.Prelude.{ℕ, Bool, true, false, Option, Some, None}
-use Rattle.gm_words.specs.Packet.{carried_number, write_response}
-use Rattle.gm_words.specs.declared.cmd.Cmd.{Cmd}
-use Rattle.gm_words.specs.declared.cmd.Cmd.TheVariants as cmds
-use Rattle.gm_words.specs.declared.packet.Packet.{Packet}
+use Rattle.pkt_pool.specs.Packet.{write_response}
+use Rattle.gm_words.specs.Numbers.{carried_number}
+use Rattle.pkt_pool.specs.declared.cmd.Cmd.{Cmd}
+use Rattle.pkt_pool.specs.declared.cmd.Cmd.TheVariants as cmds
+use Rattle.pkt_pool.specs.declared.packet.Packet.{Packet}
 use Rattle.gm_model.specs.ObjState.{Exit}
 use Rattle.gm_model.specs.Serve.{Served, served, ignored, refused}
 

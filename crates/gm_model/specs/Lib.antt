@@ -12,6 +12,7 @@ pub mod Timer
 pub mod Server
 pub mod Xbar
 pub mod ObjectStep
+pub mod Ports
 pub mod Command
 pub mod Sys
 pub mod Deliver

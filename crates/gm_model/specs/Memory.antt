@@ -3,10 +3,10 @@ use Rattle.std.specs.Prelude.{ℕ, ◌+◌, ◌-◌, nat_le, nat_lt, ◌&&◌, B
 use Rattle.rv_step.specs.FlatMem.{in_ram, ram_put}
 use Rattle.gm_words.specs.Entries.{ram_bytes}
 use Rattle.gm_words.specs.Flow.{Queued}
-use Rattle.gm_words.specs.Packet.{carried_bytes, is_write_back, read_response, write_response}
-use Rattle.gm_words.specs.declared.cmd.Cmd.{Cmd}
-use Rattle.gm_words.specs.declared.cmd.Cmd.TheVariants as cmds
-use Rattle.gm_words.specs.declared.packet.Packet.{Packet}
+use Rattle.pkt_pool.specs.Packet.{carried_bytes, is_write_back, read_response, write_response}
+use Rattle.pkt_pool.specs.declared.cmd.Cmd.{Cmd}
+use Rattle.pkt_pool.specs.declared.cmd.Cmd.TheVariants as cmds
+use Rattle.pkt_pool.specs.declared.packet.Packet.{Packet}
 use Rattle.gm_model.specs.ObjState.{Memory}
 use Rattle.gm_model.specs.Serve.{Served, served, ignored, refused}
 

@@ -4,7 +4,7 @@ use Rattle.rv_step.specs.declared.arch.Arch.{Arch}
 use Rattle.gm_words.specs.Flow.{Flow, Lane}
 use Rattle.gm_words.specs.Platform.{slot_classes}
 use Rattle.gm_words.specs.PortUses.{xbar_classes}
-use Rattle.gm_words.specs.declared.packet.Packet.{Packet}
+use Rattle.pkt_pool.specs.declared.packet.Packet.{Packet}
 use Rattle.gm_words.specs.declared.params.Params.{Params}
 use Rattle.gm_words.specs.declared.kind.Kind.{Kind}
 use Rattle.gm_words.specs.declared.kind.Kind.TheVariants as kinds

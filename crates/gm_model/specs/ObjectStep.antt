@@ -1,7 +1,7 @@
 -- The rules of all kinds: what a wake does, and what becomes of a packet that is passed on. This project's own rules.
 -- Each rule is total: where what it is asked for can't come, nothing happens.
 use Rattle.std.specs.Prelude.{ℕ, []}
-use Rattle.gm_words.specs.declared.packet.Packet.{Packet}
+use Rattle.pkt_pool.specs.declared.packet.Packet.{Packet}
 use Rattle.gm_words.specs.declared.wake.Wake.{Wake}
 use Rattle.gm_words.specs.declared.wake.Wake.TheVariants as wakes
 use Rattle.gm_words.specs.declared.way.Way.TheVariants as ways

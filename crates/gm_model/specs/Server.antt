@@ -4,13 +4,13 @@ use Rattle.rv_step.specs.FlatMem.{in_ram}
 use Rattle.rv_step.specs.Flat.{in_uart, in_exit}
 use Rattle.gm_words.specs.Flow.{Queued, OutState, Lane, quiet_flow}
 use Rattle.gm_words.specs.Moves.{Moves, no_moves}
-use Rattle.gm_words.specs.Packet.{read_response, is_write_back}
+use Rattle.pkt_pool.specs.Packet.{read_response, is_write_back}
 use Rattle.gm_words.specs.Platform.{serve_slot, serve_port, own_slot, device_class}
 use Rattle.gm_words.specs.declared.act.Act.{Act}
 use Rattle.gm_words.specs.declared.answer.Answer.{Answer}
 use Rattle.gm_words.specs.declared.answer.Answer.TheVariants as answers
 use Rattle.gm_words.specs.declared.entry.Entry.{Entry}
-use Rattle.gm_words.specs.declared.packet.Packet.{Packet}
+use Rattle.pkt_pool.specs.declared.packet.Packet.{Packet}
 use Rattle.gm_words.specs.declared.params.Params.{Params}
 use Rattle.gm_words.specs.declared.wake.Wake.{Wake}
 use Rattle.gm_words.specs.declared.wake.Wake.TheVariants as wakes

@@ -10,7 +10,7 @@ use Rattle.gm_model.specs.Command.{arch_of}
 use Rattle.gm_model.specs.Stepped.{Stepped, Passed}
 use Rattle.gm_model.specs.ObjectStep.{object_step, atomic_step}
 use Rattle.gm_words.specs.declared.kind.Kind.TheVariants as kinds
-use Rattle.gm_words.specs.declared.packet.Packet.{Packet}
+use Rattle.pkt_pool.specs.declared.packet.Packet.{Packet}
 use Rattle.gm_words.specs.declared.wake.Wake.{Wake}
 
 -- the tick, the pending events in service order, the objects in the order of their paths, the next packet number, what

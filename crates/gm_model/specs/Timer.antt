@@ -4,13 +4,14 @@ use Rattle.std.specs.Prelude.{ℕ, ◌+◌, ◌*◌, ◌/◌, ◌%◌, ◌^◌, 
 use Rattle.gc_base.specs.declared.limits.TheConstants.{LAST}
 use Rattle.rv_step.specs.Bytes.{bytes_of}
 use Rattle.gm_words.specs.Changes.{Change, Schedule, Remove}
-use Rattle.gm_words.specs.Packet.{carried_number, read_response, write_response}
+use Rattle.pkt_pool.specs.Packet.{read_response, write_response}
+use Rattle.gm_words.specs.Numbers.{carried_number}
 use Rattle.gm_words.specs.Platform.{device_class, own_slot, timer_base, software_line, clock_line}
 use Rattle.gm_words.specs.declared.act.Act.{Act}
 use Rattle.gm_words.specs.declared.act.Act.TheVariants as acts
-use Rattle.gm_words.specs.declared.cmd.Cmd.{Cmd}
-use Rattle.gm_words.specs.declared.cmd.Cmd.TheVariants as cmds
-use Rattle.gm_words.specs.declared.packet.Packet.{Packet}
+use Rattle.pkt_pool.specs.declared.cmd.Cmd.{Cmd}
+use Rattle.pkt_pool.specs.declared.cmd.Cmd.TheVariants as cmds
+use Rattle.pkt_pool.specs.declared.packet.Packet.{Packet}
 use Rattle.gm_model.specs.ObjState.{Timer, TimerState}
 use Rattle.gm_model.specs.Serve.{Served, served, ignored, refused}
 use Rattle.gm_model.specs.Stepped.{line_change}

@@ -3,11 +3,11 @@
 use Rattle.std.specs.Prelude.{ℕ, ◌+◌, ◌-◌, ◌==◌, nat_lt, Bool, true, false, if◌then◌else◌, List, [], ◌∷◌, ◌++◌, drop, length}
 use Rattle.rv_step.specs.Flat.{uart_base}
 use Rattle.gm_words.specs.Changes.{Schedule}
-use Rattle.gm_words.specs.Packet.{read_response, write_response}
+use Rattle.pkt_pool.specs.Packet.{read_response, write_response}
 use Rattle.gm_words.specs.Platform.{device_class, own_slot}
-use Rattle.gm_words.specs.declared.cmd.Cmd.{Cmd}
-use Rattle.gm_words.specs.declared.cmd.Cmd.TheVariants as cmds
-use Rattle.gm_words.specs.declared.packet.Packet.{Packet}
+use Rattle.pkt_pool.specs.declared.cmd.Cmd.{Cmd}
+use Rattle.pkt_pool.specs.declared.cmd.Cmd.TheVariants as cmds
+use Rattle.pkt_pool.specs.declared.packet.Packet.{Packet}
 use Rattle.gm_model.specs.ObjState.{Uart, UartState}
 use Rattle.gm_model.specs.Serve.{Served, served, ignored, refused}
 

@@ -3,7 +3,8 @@ use Rattle.std.specs.Prelude.{ℕ, zero, suc, Bool, true, false, if◌then◌els
 use Rattle.rv_step.specs.declared.arch.Arch.{Arch}
 use Rattle.rv_step.specs.Arch.{reset}
 use Rattle.rv_step.specs.FlatMem.{ram_byte}
-use Rattle.gm_words.specs.Packet.{carried_number, is_response, response_number}
+use Rattle.pkt_pool.specs.Packet.{is_response}
+use Rattle.gm_words.specs.Numbers.{carried_number, response_number}
 use Rattle.gm_model.specs.ObjState.{ObjState, Blank, AtomicCpu, TimingCpu, Xbar, Server, CpuStage, Rest, AwaitFetch, AwaitData, TimingStage, Between, Fetch, Ready, Data, Hand, Asks, Held, Away, Device, Memory, Uart, Exit, Timer}
 use Rattle.gm_words.specs.Flow.{Queued, Lane}
 use Rattle.gm_words.specs.Routes.{Route, is_unmapped}
@@ -13,7 +14,7 @@ use Rattle.gm_model.specs.Deliver.{Item, Sent, Done}
 use Rattle.gm_words.specs.Replay.{Progress, AtBoundary, Fetched, Accessed, Faulted, ProgramState}
 use Rattle.gm_words.specs.declared.act.Act.{Act}
 use Rattle.gm_words.specs.declared.act.Act.TheVariants as acts
-use Rattle.gm_words.specs.declared.packet.Packet.{Packet}
+use Rattle.pkt_pool.specs.declared.packet.Packet.{Packet}
 
 -- the packets of a queue
 abbrev pub queued_packets : List Queued → List Packet

@@ -4,13 +4,13 @@ use Rattle.std.specs.Prelude.{ℕ, suc, zero, ◌+◌, ◌-◌, ◌==◌, nat_lt
 use Rattle.gm_words.specs.Changes.{Change}
 use Rattle.gm_words.specs.Flow.{Queued, OutState, Quiet, Due, Asked, Waits, Flow, Lane, quiet_flow, empty_lane}
 use Rattle.gm_words.specs.Moves.{Moves, no_moves}
-use Rattle.gm_words.specs.Packet.{pushed, popped, top_port, is_response, is_write_back, fault_response, read_response, carried_bytes}
+use Rattle.pkt_pool.specs.Packet.{pushed, popped, top_port, is_response, is_write_back, fault_response, read_response, carried_bytes}
 use Rattle.gm_words.specs.PortUses.{used, port_from, source_port, slot_of_port, class_of_port, port_of_slot, side_slot, is_side_slot, request_class}
 use Rattle.gm_words.specs.declared.act.Act.{Act}
 use Rattle.gm_words.specs.declared.answer.Answer.{Answer}
 use Rattle.gm_words.specs.declared.answer.Answer.TheVariants as answers
 use Rattle.gm_words.specs.declared.entry.Entry.{Entry}
-use Rattle.gm_words.specs.declared.packet.Packet.{Packet}
+use Rattle.pkt_pool.specs.declared.packet.Packet.{Packet}
 use Rattle.gm_words.specs.declared.params.Params.{Params}
 use Rattle.gm_words.specs.declared.port_use.PortUse.{PortUse}
 use Rattle.gm_words.specs.declared.wake.Wake.{Wake}

@@ -7,7 +7,7 @@ use Rattle.gm_words.specs.Platform.{End}
 use Rattle.gm_words.specs.Routes.{Route, is_unmapped}
 use Rattle.gm_words.specs.Slots.{gave_from}
 use Rattle.gm_words.specs.declared.kind.Kind.TheVariants as kinds
-use Rattle.gm_words.specs.declared.packet.Packet.{Packet}
+use Rattle.pkt_pool.specs.declared.packet.Packet.{Packet}
 use Rattle.gm_model.specs.ObjState.{ObjState, Blank, object_of, slots_of}
 use Rattle.gm_model.specs.Sys.{Sys, object_at, peer_in}
 use Rattle.gm_model.specs.View.{packets_in, part_packets, all_packets, program_state}

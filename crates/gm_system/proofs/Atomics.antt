@@ -5,7 +5,7 @@ use Rattle.std.proofs.lemmas.List.{append-nil, set-get_or}
 use Rattle.gm_model.specs.Deliver.{Item, Sent, Done, Delivery, sent_by, deliver_passed, done_at, deliver_atomic, pass_way, way_latency, passes_max}
 use Rattle.gm_model.specs.ObjState.{ObjState, Blank}
 use Rattle.gc_base.specs.declared.limits.TheConstants.{LATENCY_MAX}
-use Rattle.gm_words.specs.Packet.{is_response, is_write_back}
+use Rattle.pkt_pool.specs.Packet.{is_response, is_write_back}
 use Rattle.gm_model.specs.Stepped.{Stepped}
 use Rattle.gm_words.specs.Moves.{no_moves, Moves}
 use Rattle.gm_words.specs.Changes.{Change}
@@ -16,11 +16,11 @@ use Rattle.gm_words.specs.declared.act.Act.TheVariants as acts
 use Rattle.gm_words.specs.declared.answer.Answer.TheVariants as answers
 use Rattle.gm_words.specs.declared.entry.Entry.{Entry}
 use Rattle.gm_words.specs.declared.kind.Kind.TheVariants as kinds
-use Rattle.gm_words.specs.declared.packet.Packet.{Packet}
+use Rattle.pkt_pool.specs.declared.packet.Packet.{Packet}
 use Rattle.gm_words.specs.declared.wake.Wake.TheVariants as wakes
 use Rattle.gm_words.specs.declared.act.Act.{Act}
-use Rattle.gm_words.specs.declared.cmd.Cmd.{Cmd}
-use Rattle.gm_words.specs.declared.cmd.Cmd.TheVariants as cmds
+use Rattle.pkt_pool.specs.declared.cmd.Cmd.{Cmd}
+use Rattle.pkt_pool.specs.declared.cmd.Cmd.TheVariants as cmds
 use Rattle.gm_words.specs.Routes.{Route}
 use Rattle.gm_words.specs.declared.way.Way.{Way}
 use Rattle.gm_words.specs.declared.way.Way.TheVariants as ways

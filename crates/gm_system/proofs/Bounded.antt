@@ -22,7 +22,7 @@ use Rattle.gm_words.specs.declared.answer.Answer.{Answer}
 use Rattle.gm_words.specs.declared.answer.Answer.TheVariants as answers
 use Rattle.gm_words.specs.declared.entry.Entry.{Entry}
 use Rattle.gm_words.specs.declared.kind.Kind.TheVariants as kinds
-use Rattle.gm_words.specs.declared.packet.Packet.{Packet}
+use Rattle.pkt_pool.specs.declared.packet.Packet.{Packet}
 use Rattle.gm_words.specs.declared.wake.Wake.{Wake}
 use Rattle.gm_words.specs.declared.wake.Wake.TheVariants as wakes
 use Rattle.gm_model.specs.Deliver.{Item, Sent, Done, Delivery, sent_by, deliver_wake, deliver_line, deliver_passed, done_at, handle, told_wake, passes_max}

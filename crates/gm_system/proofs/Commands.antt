@@ -10,7 +10,7 @@ use Rattle.ev_queue.specs.PendingList.{IsInServiceOrder, HoldsSlotsOnce, is_pend
 use Rattle.gm_words.specs.Changes.{changed, due_after}
 use Rattle.gm_words.specs.Routes.{Route}
 use Rattle.gm_words.specs.declared.kind.Kind.TheVariants as kinds
-use Rattle.gm_words.specs.declared.packet.Packet.{Packet}
+use Rattle.pkt_pool.specs.declared.packet.Packet.{Packet}
 use Rattle.gm_laws.specs.Words.{weigh}
 use Rattle.gm_words.proofs.QueueLaws.{due_queue}
 use Rattle.gm_model.specs.Command.{drain_step, resume_step, with_input, with_own_bytes}

@@ -6,7 +6,7 @@ use Rattle.gm_model.specs.Deliver.{Item, told_wake}
 use Rattle.gm_words.specs.Platform.{End}
 use Rattle.gm_words.specs.declared.answer.Answer.{Answer}
 use Rattle.gm_words.specs.declared.answer.Answer.TheVariants as answers
-use Rattle.gm_words.specs.declared.packet.Packet.{Packet}
+use Rattle.pkt_pool.specs.declared.packet.Packet.{Packet}
 use Rattle.gm_words.specs.declared.wake.Wake.{Wake}
 use Rattle.gm_words.specs.declared.wake.Wake.TheVariants as wakes
 use Rattle.gm_laws.specs.Words.{only, told, refused, retry, shown, rejected}

@@ -5,12 +5,12 @@ use Rattle.gc_base.specs.declared.ids.SlotNo.{SlotNo}
 use Rattle.ev_queue.specs.PendingList.{is_pending}
 use Rattle.gm_model.specs.Deliver.{Item, Sent, Done, told_wake, deliver_wake, deliver_offer}
 use Rattle.gm_words.specs.HartLine.{is_line}
-use Rattle.gm_words.specs.Packet.{is_response}
+use Rattle.pkt_pool.specs.Packet.{is_response}
 use Rattle.gm_model.specs.Sys.{Sys, object_at, step_at, woken, peer_in}
 use Rattle.gm_words.specs.Platform.{End}
 use Rattle.gm_words.specs.declared.act.Act.TheVariants as acts
 use Rattle.gm_words.specs.declared.entry.Entry.{Entry}
-use Rattle.gm_words.specs.declared.packet.Packet.{Packet}
+use Rattle.pkt_pool.specs.declared.packet.Packet.{Packet}
 use Rattle.gm_words.specs.declared.wake.Wake.{Wake}
 use Rattle.gm_words.specs.declared.wake.Wake.TheVariants as wakes
 use Rattle.gm_laws.specs.Words.{only, weigh, IsBlind, offered_by, called_by, offer_out}

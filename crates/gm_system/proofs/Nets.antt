@@ -5,7 +5,7 @@ use Rattle.gm_model.specs.Deliver.{Item, Sent, sent_by}
 use Rattle.gm_words.specs.Platform.{End}
 use Rattle.gm_words.specs.declared.act.Act.{Act}
 use Rattle.gm_words.specs.declared.answer.Answer.{Answer}
-use Rattle.gm_words.specs.declared.packet.Packet.{Packet}
+use Rattle.pkt_pool.specs.declared.packet.Packet.{Packet}
 use Rattle.gm_words.specs.declared.wake.Wake.{Wake}
 use Rattle.gm_words.specs.declared.wake.Wake.TheVariants as wakes
 use Rattle.gm_laws.specs.Words.{only, offers, calls, offered_by, called_by, IsIn, told, taken, refused, retry, shown, rejected, offer_out}

@@ -5,7 +5,7 @@ use Rattle.gm_model.specs.ObjState.{ObjState, Blank}
 use Rattle.gm_model.specs.View.{Mind, packets_in, part_packets, item_packets, act_packets, parts_mind, parts_view}
 use Rattle.gm_words.specs.declared.act.Act.{Act}
 use Rattle.gm_words.specs.declared.kind.Kind.TheVariants as kinds
-use Rattle.gm_words.specs.declared.packet.Packet.{Packet}
+use Rattle.pkt_pool.specs.declared.packet.Packet.{Packet}
 use Rattle.gm_laws.specs.Words.{weigh}
 use Rattle.gm_laws.specs.Face.{passed_packets}
 use Rattle.gm_laws.specs.Faces.{face_of}

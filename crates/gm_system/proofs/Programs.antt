@@ -12,7 +12,7 @@ use Rattle.gm_model.specs.View.{Mind, all_packets, part_packets, item_packets, p
 use Rattle.gm_words.specs.declared.act.Act.{Act}
 use Rattle.gm_words.specs.declared.entry.Entry.{Entry}
 use Rattle.gm_words.specs.declared.kind.Kind.TheVariants as kinds
-use Rattle.gm_words.specs.declared.packet.Packet.{Packet}
+use Rattle.pkt_pool.specs.declared.packet.Packet.{Packet}
 use Rattle.gm_words.specs.declared.wake.Wake.{Wake}
 use Rattle.gm_laws.specs.Words.{weigh, IsBlind, requests_of, responses_of}
 use Rattle.gm_laws.specs.Face.{Face}

@@ -10,7 +10,7 @@ use Rattle.gm_words.specs.Moves.{Moves, no_moves, joined, AreDrawn}
 use Rattle.gm_words.specs.Replay.{replay}
 use Rattle.gm_words.specs.Routes.{Route}
 use Rattle.gm_words.specs.declared.entry.Entry.{Entry}
-use Rattle.gm_words.specs.declared.packet.Packet.{Packet}
+use Rattle.pkt_pool.specs.declared.packet.Packet.{Packet}
 use Rattle.gm_words.specs.declared.wake.Wake.TheVariants as wakes
 use Rattle.gm_model.specs.Deliver.{Item, Delivery, deliver, deliver_first, items_max}
 use Rattle.gm_model.specs.EventMoves.{first_moves, deliver_moves, event_moves, fire_event_moves, fire_moves}

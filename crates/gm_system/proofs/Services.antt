@@ -6,7 +6,7 @@ use Rattle.rv_step.specs.declared.demand.Demand.TheVariants as demand
 use Rattle.rv_step.specs.Bytes.{number, bytes_of}
 use Rattle.rv_step.specs.Demand.{need}
 use Rattle.rv_step.specs.FlatMem.{in_ram, ram_put}
-use Rattle.gm_words.specs.Packet.{with_front, is_response, carried_bytes}
+use Rattle.pkt_pool.specs.Packet.{with_front, is_response, carried_bytes}
 use Rattle.gm_words.specs.Platform.{is_in_ram}
 use Rattle.gm_words.specs.Replay.{ProgramState, is_of_memory, Progress, AtBoundary, Fetched, Accessed, Faulted, replay, replay_entry}
 use Rattle.gm_words.specs.Routes.{Route, is_unmapped}
@@ -14,11 +14,11 @@ use Rattle.gm_words.specs.Entries.{ram_bytes, entry_bytes}
 use Rattle.gm_words.specs.Moves.{Service}
 use Rattle.gm_model.specs.View.{Mind, Doing, Boundary, Fetching, Decoded, Accessing, awaited, progress_of, is_of_hart}
 use Rattle.gc_base.specs.declared.ids.PktId.{PktId}
-use Rattle.gm_words.specs.declared.cmd.Cmd.{Cmd}
-use Rattle.gm_words.specs.declared.cmd.Cmd.TheVariants as cmds
+use Rattle.pkt_pool.specs.declared.cmd.Cmd.{Cmd}
+use Rattle.pkt_pool.specs.declared.cmd.Cmd.TheVariants as cmds
 use Rattle.gm_words.specs.declared.entry.Entry.{Entry}
 use Rattle.gm_words.specs.declared.entry.Entry.TheVariants as entries
-use Rattle.gm_words.specs.declared.packet.Packet.{Packet}
+use Rattle.pkt_pool.specs.declared.packet.Packet.{Packet}
 use Rattle.gm_laws.specs.Words.{weigh, IsBlind, requests_of, responses_of}
 use Rattle.gm_laws.specs.Program.{bit, core, owed, bad, is_expected, suits, content_of, is_fetch, is_data, is_access, is_true, is_reading, is_writing, is_silent, mind, IsService, read, written, device_read, device_written, nobody_read, nobody_written, unchanged, Serves, none, aside, serves}
 use Rattle.gm_laws.proofs.Weights.{weigh-append, on_core, on_core-blind, core_blind, bad_blind, one_more, one_progress, kept_progress}

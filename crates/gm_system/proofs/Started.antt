@@ -18,13 +18,13 @@ use Rattle.rv_step.specs.Flat.{uart_base, exit_base}
 use Rattle.gm_words.specs.Allowed.{MayPass}
 use Rattle.gm_words.specs.Counts.{AreUpTo, no_counts}
 use Rattle.gm_words.specs.Flow.{Lane, empty_lane, quiet_flow}
-use Rattle.gm_words.specs.Packet.{is_response}
+use Rattle.pkt_pool.specs.Packet.{is_response}
 use Rattle.gm_words.specs.Platform.{Part, End, Range, platform, port_at, is_within, is_in_ram, range_of, serve_slot, timer_base, out_to, out_to_nobody, wires_of, ways_of}
 use Rattle.gm_words.specs.PortUses.{takes, is_source, is_total, last_address, used, fore, use_at, port_from, port_of_slot, is_side_slot, sides, source_from, or_first}
 use Rattle.gm_words.specs.Routes.{Route, destination, is_unmapped, route_to, routes_of}
 use Rattle.gm_words.specs.Slots.{gave_from, given_table}
 use Rattle.gm_words.specs.declared.kind.Kind.TheVariants as kinds
-use Rattle.gm_words.specs.declared.packet.Packet.{Packet}
+use Rattle.pkt_pool.specs.declared.packet.Packet.{Packet}
 use Rattle.gm_words.specs.declared.port_use.PortUse.{PortUse}
 use Rattle.gm_words.specs.declared.port_use.PortUse.TheVariants as uses
 use Rattle.gm_model.specs.Flows.{has_room, is_due_out}

@@ -6,7 +6,7 @@ use Rattle.gm_words.specs.Platform.{is_in_ram}
 use Rattle.gm_words.specs.Routes.{is_unmapped}
 use Rattle.gm_model.specs.Sys.{Sys, object_at, peer_in}
 use Rattle.gm_model.specs.View.{Mind, part_packets}
-use Rattle.gm_words.specs.declared.packet.Packet.{Packet}
+use Rattle.pkt_pool.specs.declared.packet.Packet.{Packet}
 use Rattle.gm_laws.specs.Words.{weigh}
 use Rattle.gm_laws.specs.Face.{Face, FaceOk}
 use Rattle.gm_laws.specs.Faces.{IsOk}

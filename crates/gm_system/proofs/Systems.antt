@@ -12,7 +12,7 @@ use Rattle.gm_model.specs.Sys.{Sys, object_at, peer_in, step_at, with_object}
 use Rattle.gm_words.specs.declared.act.Act.{Act}
 use Rattle.gm_words.specs.declared.act.Act.TheVariants as acts
 use Rattle.gm_words.specs.declared.kind.Kind.TheVariants as kinds
-use Rattle.gm_words.specs.declared.packet.Packet.{Packet}
+use Rattle.pkt_pool.specs.declared.packet.Packet.{Packet}
 use Rattle.gm_words.specs.declared.wake.Wake.{Wake}
 use Rattle.gm_words.specs.declared.wake.Wake.TheVariants as wakes
 use Rattle.gm_laws.specs.Words.{taken}

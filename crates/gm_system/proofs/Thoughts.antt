@@ -10,16 +10,16 @@ use Rattle.rv_step.specs.Retire.{finish}
 use Rattle.rv_step.specs.Trap.{enter_trap}
 use Rattle.gm_model.specs.Accesses.{fetch_request, load_request, store_request}
 use Rattle.gm_words.specs.HartLine.{with_line}
-use Rattle.gm_words.specs.Packet.{is_response}
+use Rattle.pkt_pool.specs.Packet.{is_response}
 use Rattle.gm_words.specs.Platform.{is_in_ram}
 use Rattle.gm_words.specs.Replay.{ProgramState, Progress, AtBoundary, Fetched, Accessed, Faulted, replay, replay_entry, same_bytes}
 use Rattle.gm_words.specs.Routes.{Route, is_unmapped}
 use Rattle.gm_model.specs.View.{Mind, Doing, Boundary, Fetching, Decoded, Accessing, is_of_hart, awaited, progress_of}
-use Rattle.gm_words.specs.declared.cmd.Cmd.{Cmd}
-use Rattle.gm_words.specs.declared.cmd.Cmd.TheVariants as cmds
+use Rattle.pkt_pool.specs.declared.cmd.Cmd.{Cmd}
+use Rattle.pkt_pool.specs.declared.cmd.Cmd.TheVariants as cmds
 use Rattle.gm_words.specs.declared.entry.Entry.{Entry}
 use Rattle.gm_words.specs.declared.entry.Entry.TheVariants as entries
-use Rattle.gm_words.specs.declared.packet.Packet.{Packet}
+use Rattle.pkt_pool.specs.declared.packet.Packet.{Packet}
 use Rattle.gm_laws.specs.Words.{weigh, IsBlind}
 use Rattle.gm_laws.specs.Program.{bit, core, owed, bad, is_expected, suits, content_of, is_fetch, is_access, is_true, is_reading, is_writing, over, mind, Thought, silent, lined, interrupted, misfetched, fetches, finished, trapped, decoded, loads, stores, fetched_loads, fetched_stores, loaded, load_refused, stored, store_refused}
 use Rattle.gm_laws.proofs.Weights.{on_core, on_core-blind, on_core-none, IsOne, core_blind, bad_blind, bad_core, bit_le, weigh_le, one_more, one_progress, kept_progress}

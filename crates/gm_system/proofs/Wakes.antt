@@ -4,7 +4,7 @@ use Rattle.std.proofs.lemmas.Bool.{cases_eq}
 use Rattle.gm_model.specs.Deliver.{Item, sent_by}
 use Rattle.gm_words.specs.HartLine.{is_line}
 use Rattle.gm_model.specs.ObjState.{Blank}
-use Rattle.gm_words.specs.Packet.{is_response}
+use Rattle.pkt_pool.specs.Packet.{is_response}
 use Rattle.gm_words.specs.Routes.{Route}
 use Rattle.gm_model.specs.Stepped.{Stepped}
 use Rattle.gm_words.specs.Moves.{Service}
@@ -14,7 +14,7 @@ use Rattle.gm_words.specs.declared.answer.Answer.{Answer}
 use Rattle.gm_words.specs.declared.answer.Answer.TheVariants as answers
 use Rattle.gm_words.specs.declared.entry.Entry.{Entry}
 use Rattle.gm_words.specs.declared.kind.Kind.TheVariants as kinds
-use Rattle.gm_words.specs.declared.packet.Packet.{Packet}
+use Rattle.pkt_pool.specs.declared.packet.Packet.{Packet}
 use Rattle.gm_words.specs.declared.wake.Wake.{Wake}
 use Rattle.gm_words.specs.declared.wake.Wake.TheVariants as wakes
 use Rattle.gm_laws.specs.Words.{weigh, IsBlind, requests_of, responses_of}

@@ -4,7 +4,7 @@ use Rattle.gm_words.specs.Platform.{End}
 use Rattle.gm_model.specs.Deliver.{Item, Sent}
 use Rattle.gm_words.specs.declared.answer.Answer.{Answer}
 use Rattle.gm_words.specs.declared.answer.Answer.TheVariants as answers
-use Rattle.gm_words.specs.declared.packet.Packet.{Packet}
+use Rattle.pkt_pool.specs.declared.packet.Packet.{Packet}
 use Rattle.gm_words.specs.declared.wake.Wake.{Wake}
 use Rattle.gm_words.specs.declared.wake.Wake.TheVariants as wakes
 use Rattle.gm_laws.specs.Words.{IsIn, only, offered_by, called_by, told, refused, retry, shown, rejected, offer_out}

@@ -5,7 +5,7 @@ use Rattle.ev_queue.specs.declared.slot.Slot.{Slot}
 use Rattle.gm_words.specs.Moves.{AreDrawn}
 use Rattle.gm_words.specs.Replay.{replay}
 use Rattle.gm_words.specs.declared.entry.Entry.{Entry}
-use Rattle.gm_words.specs.declared.packet.Packet.{Packet}
+use Rattle.pkt_pool.specs.declared.packet.Packet.{Packet}
 use Rattle.gm_model.specs.Fire.{Ran, timed_run}
 use Rattle.gm_model.specs.Picks.{Pick, Picked, any_run}
 use Rattle.gm_model.specs.Sys.{Sys}

@@ -10,7 +10,7 @@ use Rattle.gm_words.specs.Replay.{replay}
 use Rattle.gm_model.specs.Sys.{Sys, object_at, peer_in}
 use Rattle.gm_model.specs.View.{Mind, program_state, all_packets, part_packets, item_packets, act_packets}
 use Rattle.gm_words.specs.declared.entry.Entry.{Entry}
-use Rattle.gm_words.specs.declared.packet.Packet.{Packet}
+use Rattle.pkt_pool.specs.declared.packet.Packet.{Packet}
 use Rattle.gm_laws.specs.Words.{weigh}
 use Rattle.gm_laws.specs.Face.{Face}
 use Rattle.gm_system.specs.Net.{Net, IsWired, Debt, Clear}

@@ -1,7 +1,7 @@
 -- The way of a packet that is passed at once, from part to part: each passes it on, and nothing else happens, until one serves it.
 -- This project's own rule.
 use Rattle.std.specs.Prelude.{ℕ, zero, suc, ◌<◌, length}
-use Rattle.gm_words.specs.declared.packet.Packet.{Packet}
+use Rattle.pkt_pool.specs.declared.packet.Packet.{Packet}
 use Rattle.gm_words.specs.declared.way.Way.{Way}
 use Rattle.gm_words.specs.declared.way.Way.TheVariants as ways
 use Rattle.gm_model.specs.Sys.{Sys, object_at, peer_in, pass_at}

@@ -6,7 +6,7 @@ use Rattle.cfg_tree.specs.Valid.{IsUpTo}
 use Rattle.gm_words.specs.HartLine.{is_line}
 use Rattle.gm_words.specs.declared.own.Own.{Own}
 use Rattle.gm_words.specs.declared.own.Own.TheVariants as owns
-use Rattle.gm_words.specs.declared.packet.Packet.{Packet}
+use Rattle.pkt_pool.specs.declared.packet.Packet.{Packet}
 use Rattle.gm_words.specs.declared.params.Params.{Params}
 use Rattle.gm_words.specs.declared.port_use.PortUse.{PortUse}
 use Rattle.gm_words.specs.declared.port_use.PortUse.TheVariants as uses

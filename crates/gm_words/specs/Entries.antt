@@ -2,11 +2,11 @@
 use Rattle.std.specs.Prelude.{ℕ, ◌-◌, ◌==◌, ◌&&◌, nat_lt, Bool, not, if◌then◌else◌, List, [], ◌∷◌, ◌++◌, take, drop, replicate}
 use Rattle.rv_step.specs.Flat.{uart_base}
 use Rattle.rv_step.specs.FlatMem.{ram_base}
-use Rattle.gm_words.specs.Packet.{carried_bytes, is_write}
+use Rattle.pkt_pool.specs.Packet.{carried_bytes, is_write}
 use Rattle.gm_words.specs.Platform.{data_source}
 use Rattle.gm_words.specs.declared.entry.Entry.{Entry}
 use Rattle.gm_words.specs.declared.entry.Entry.TheVariants as entries
-use Rattle.gm_words.specs.declared.packet.Packet.{Packet}
+use Rattle.pkt_pool.specs.declared.packet.Packet.{Packet}
 
 -- the bytes of RAM that are read
 abbrev pub ram_bytes : List ℕ → ℕ → ℕ → List ℕ

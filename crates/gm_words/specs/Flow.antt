@@ -1,7 +1,7 @@
 -- What a part has to send from one port: the packets in order, how the first of them stands, and who waits for room.
 -- This project's own rule, after request and response ports whose receiver may refuse.
 use Rattle.std.specs.Prelude.{ℕ, List, []}
-use Rattle.gm_words.specs.declared.packet.Packet.{Packet}
+use Rattle.pkt_pool.specs.declared.packet.Packet.{Packet}
 
 -- how the first packet stands: there is none, its event is pending, it is offered, or it was refused and waits for a call
 pub data OutState : Type 0 where

@@ -1,4 +1,4 @@
-pub mod Packet
+pub mod Numbers
 pub mod Moves
 pub mod Kind
 pub mod PortUses

@@ -1,6 +1,6 @@
 -- Which packets came to be, and which came to an end. This project's own rule.
 use Rattle.std.specs.Prelude.{◌≡◌, ℕ, ◌+◌, List, [], ◌∷◌, ◌++◌}
-use Rattle.gm_words.specs.declared.packet.Packet.{Packet}
+use Rattle.pkt_pool.specs.declared.packet.Packet.{Packet}
 
 -- a request that was served, and the response to it
 pub record Service : Type 0 where

@@ -13,7 +13,7 @@ use Rattle.gc_base.specs.declared.ids.ObjId.{ObjId}
 use Rattle.gc_base.specs.declared.ids.PortNo.{PortNo}
 use Rattle.gm_words.specs.declared.act.Act.{Act}
 use Rattle.gm_words.specs.declared.act.Act.TheVariants as acts
-use Rattle.gm_words.specs.declared.packet.Packet.{Packet}
+use Rattle.pkt_pool.specs.declared.packet.Packet.{Packet}
 use Rattle.gm_words.specs.declared.wake.Wake.TheVariants as wakes
 use Rattle.ev_queue.specs.declared.due.Due.{Due}
 use Rattle.gm_model.specs.Fire.{event_begun}

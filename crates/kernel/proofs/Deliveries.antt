@@ -6,7 +6,7 @@ use Rattle.gm_words.specs.Routes.{destination}
 use Rattle.gm_words.specs.Platform.{End}
 use Rattle.gm_model.specs.Sys.{Sys, active_cpu, pass_at, peer_in, step_at}
 use Rattle.gm_model.specs.Deliver.{Item, Sent, Done, Delivery, handle, deliver, deliver_first, deliver_wake, deliver_line, deliver_atomic, told_wake, sent_by, way_latency}
-use Rattle.gm_words.specs.Packet.{fault_response}
+use Rattle.pkt_pool.specs.Packet.{fault_response}
 use Rattle.gm_words.specs.declared.act.Act.TheVariants as acts
 use Rattle.gm_words.specs.declared.wake.Wake.{Wake}
 use Rattle.gm_words.specs.declared.wake.Wake.TheVariants as wakes

@@ -13,7 +13,7 @@ use Rattle.gm_model.specs.Sys.{Sys, active_from, active_cpu, pass_at}
 use Rattle.gm_model.specs.Deliver.{Delivery, deliver_wake, deliver_passed, done_at, deliver_atomic, way_latency}
 use Rattle.gm_words.specs.declared.answer.Answer.{Answer}
 use Rattle.gm_words.specs.declared.kind.Kind.TheVariants as kinds
-use Rattle.gm_words.specs.declared.packet.Packet.{Packet}
+use Rattle.pkt_pool.specs.declared.packet.Packet.{Packet}
 use Rattle.gm_words.specs.declared.wake.Wake.{Wake}
 use Rattle.gm_words.specs.declared.way.Way.{Way}
 use Rattle.obj_core.specs.Events.{with_changes}

@@ -9,7 +9,7 @@ use Rattle.gm_words.specs.Allowed.{MayCome, MayPass}
 use Rattle.gm_words.specs.Platform.{End}
 use Rattle.gm_words.specs.Routes.{destination}
 use Rattle.gm_words.specs.declared.act.Act.TheVariants as acts
-use Rattle.gm_words.specs.declared.packet.Packet.{Packet}
+use Rattle.pkt_pool.specs.declared.packet.Packet.{Packet}
 use Rattle.gm_words.specs.declared.wake.Wake.{Wake}
 use Rattle.gm_words.specs.declared.wake.Wake.TheVariants as wakes
 use Rattle.gm_model.specs.Deliver.{Delivery, Item, Sent, deliver, deliver_wake, told_wake, way_latency}

@@ -4,7 +4,7 @@ ghost use Rattle.std.specs.Bool.{OnTrue, OnFalse};
 ghost use Rattle.std.specs.Option.{option_map};
 ghost use Rattle.gc_base.specs.declared.limits.TheConstants.{LATENCY_MAX};
 ghost use Rattle.gm_model.specs.Deliver.{deliver_wake, deliver_passed, done_at, deliver_atomic, deliver_line, deliver_offer, told_wake, way_latency};
-ghost use Rattle.gm_words.specs.Packet.{fault_response};
+ghost use Rattle.pkt_pool.specs.Packet.{fault_response};
 ghost use Rattle.gm_words.specs.Routes.{destination};
 ghost use Rattle.gm_model.specs.Sys.{active_cpu, pass_at, peer_in, step_at};
 ghost use Rattle.gm_words.specs.declared.wake.Wake.TheVariants.{Line, AtomicDone};

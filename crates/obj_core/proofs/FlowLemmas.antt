@@ -4,8 +4,8 @@ use Rattle.std.proofs.lemmas.Bool.{cases_eq}
 use Rattle.std.proofs.lemmas.List.{drop_more}
 use Rattle.gm_words.specs.Allowed.{MayPass}
 use Rattle.gm_words.specs.Flow.{Queued}
-use Rattle.gm_words.specs.declared.packet.Packet.{Packet}
-use Rattle.gm_words.specs.Packet.{carried_bytes}
+use Rattle.pkt_pool.specs.declared.packet.Packet.{Packet}
+use Rattle.pkt_pool.specs.Packet.{carried_bytes}
 use Rattle.gm_model.specs.Flows.{head_of}
 use Rattle.gm_model.specs.Memory.{covers, queued_bytes}
 use Rattle.pkt_pool.specs.Pooled.{Pooled, packet_at, count, Changes}

@@ -1,7 +1,7 @@
 -- What the steps of flows and lanes ask for, and what they leave.
 use Rattle.std.proofs.Common.{◌≡◌, ℕ, refl, Bool, true, false, List, [], ◌∷◌}
 use Rattle.gm_words.specs.Flow.{Flow, Queued, OutState, Quiet, Due, Asked, Waits}
-use Rattle.gm_words.specs.declared.packet.Packet.{Packet}
+use Rattle.pkt_pool.specs.declared.packet.Packet.{Packet}
 use Rattle.obj_core.specs.Kept.{outlet_of}
 use Rattle.gm_model.specs.Flows.{Outlet, Moved, still, put_in, ask_in, hold_in, again_in, gone_in, open_in}
 

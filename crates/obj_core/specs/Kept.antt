@@ -3,7 +3,7 @@ use Rattle.std.specs.Prelude.{◌≡◌, ℕ, ◌≤◌, ◌==◌, ◌||◌, Boo
 use Rattle.gm_words.specs.Allowed.{MayPass}
 use Rattle.gm_words.specs.Flow.{Flow, Queued, OutState, Quiet, Due, Asked, Waits}
 use Rattle.gm_words.specs.declared.act.Act.{Act}
-use Rattle.gm_words.specs.declared.packet.Packet.{Packet}
+use Rattle.pkt_pool.specs.declared.packet.Packet.{Packet}
 use Rattle.gm_model.specs.Flows.{Outlet, offer_at}
 use Rattle.pkt_pool.specs.Pooled.{Pooled, packet_at, count}
 use Rattle.obj_core.specs.declared.flow.Head.{Head}

@@ -4,7 +4,6 @@ pub mod Events
 pub mod Lines
 pub mod Step
 pub mod Kept
-pub mod May
 pub use Rattle.ev_queue.specs.Handle
 pub use Rattle.ev_queue.specs.PendingList
 pub use Rattle.ev_queue.specs.Queue
@@ -18,8 +17,9 @@ pub use Rattle.gm_words.specs.Flow
 pub use Rattle.gm_words.specs.HartLine
 pub use Rattle.gm_words.specs.Kind
 pub use Rattle.gm_model.specs.ObjectStep
+pub use Rattle.gm_model.specs.Ports
 pub use Rattle.gm_model.specs.ObjState
-pub use Rattle.gm_words.specs.Packet
+pub use Rattle.pkt_pool.specs.Packet
 pub use Rattle.gm_words.specs.Platform
 pub use Rattle.gm_model.specs.Serve
 pub use Rattle.gm_model.specs.Server

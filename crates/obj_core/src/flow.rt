@@ -4,7 +4,7 @@ ghost use Rattle.ev_queue.specs.SlotTable.{gave};
 ghost use Rattle.gm_words.specs.Allowed.{MayPass};
 ghost use Rattle.gm_words.specs.Changes.{changed};
 ghost use Rattle.gm_words.specs.Flow.{quiet_flow, Waits};
-ghost use Rattle.gm_words.specs.Packet.{carried_bytes, read_response};
+ghost use Rattle.pkt_pool.specs.Packet.{carried_bytes, read_response};
 ghost use Rattle.gm_model.specs.Flows.{head_of, is_due_out, put_in, ask_in, hold_in, again_in, gone_in};
 ghost use Rattle.gm_model.specs.Memory.{queued_bytes, covers};
 ghost use Rattle.gm_model.specs.Xbar.{read_of};

@@ -4,13 +4,13 @@ ghost use Rattle.std.specs.Option.{option_map};
 ghost use Rattle.gm_words.specs.Allowed.{IsAllowed, MayCome, MayPass};
 ghost use Rattle.gm_words.specs.Kind.{kind_of_own};
 ghost use Rattle.gm_model.specs.ObjState.{kind_of, IsBlank};
+ghost use Rattle.gm_model.specs.Ports.{ComesWithin};
 ghost use Rattle.gm_model.specs.ObjectStep.{object_step, atomic_step, functional_step};
 ghost use Rattle.gm_model.specs.Command.{start_of, with_mode, drain_step, is_drained, resume_step, invalidated, arch_of, with_arch, exit_code, takes_input, with_input, own_bytes, with_own_bytes, lines_of};
 ghost use Rattle.gm_words.specs.declared.way.Way.TheVariants.{Done};
 ghost use Rattle.obj_core.specs.Handles.{AreHandlesOf, HasHandles};
 ghost use Rattle.obj_core.specs.Events.{with_changes};
 ghost use Rattle.obj_core.specs.Out.{HasRoom, extended};
-ghost use Rattle.obj_core.specs.May.{MayWake};
 ghost use Rattle.obj_core.specs.Lines.{dirty_lines, line_info, line_address, line_bytes};
 
 use crate::handles::Handles;
@@ -62,7 +62,7 @@ pub trait SimObject: Drop {
     fn wake(&mut self, w: Wake, now: Tick, q: &mut EventQueue, out: &mut Outbox) -> Answer
         requires handles { HasHandles q.old.table (state self.old) }
         requires wake { MayCome w }
-        requires ports { MayWake (state self.old) w }
+        requires port { ComesWithin (state self.old) w }
         requires tick { now ≤ TOP }
         requires room { HasRoom out.old }
         ensures state { state self.new ≡ (object_step (state self.old) out.old.next w now).state }

@@ -2,7 +2,7 @@
 // Not modelled: reads, which are refused, and a second number, which is lost.
 ghost use Rattle.std.specs.Prelude.{◌≡◌, ◌≤◌, if◌then◌else◌, refl};
 ghost use Rattle.gm_model.specs.ObjState.{Exit};
-ghost use Rattle.gm_words.specs.Packet.{carried_number};
+ghost use Rattle.gm_words.specs.Numbers.{carried_number};
 ghost use Rattle.gm_model.specs.ExitDevice.{serve_exit};
 ghost use Rattle.gm_words.specs.declared.kind.Kind.TheVariants as kinds;
 ghost use Rattle.obj_core.specs.Out.{HasRoom, extended};

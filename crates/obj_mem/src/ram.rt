@@ -2,7 +2,7 @@
 ghost use Rattle.std.specs.Prelude.{◌≡◌, ◌+◌, ◌≤◌, length, take, drop, replicate, IfOk, IsTrue};
 ghost use Rattle.rv_step.specs.FlatMem.{in_ram, ram_put};
 ghost use Rattle.gm_model.specs.Memory.{with_bytes_at};
-ghost use Rattle.gm_words.specs.Packet.{carried_bytes};
+ghost use Rattle.pkt_pool.specs.Packet.{carried_bytes};
 ghost use Rattle.gm_words.specs.Entries.{ram_bytes};
 
 use gc_base::NoMemory;

@@ -3,7 +3,7 @@ ghost use Rattle.std.specs.Prelude.{◌≡◌, ◌≤◌};
 ghost use Rattle.rv_step.specs.FlatMem.{in_ram};
 ghost use Rattle.gm_model.specs.ObjState.{Memory};
 ghost use Rattle.gm_model.specs.Memory.{serve_memory};
-ghost use Rattle.gm_words.specs.declared.cmd.Cmd.TheVariants.{Read, Write};
+ghost use Rattle.pkt_pool.specs.declared.cmd.Cmd.TheVariants.{Read, Write};
 ghost use Rattle.obj_core.specs.Out.{HasRoom, extended};
 
 use crate::ram::Ram;

@@ -3,15 +3,15 @@ use Rattle.std.proofs.Common.{◌≡◌, ℕ, ◌+◌, ◌-◌, ◌≤◌, ◌==
 use Rattle.rv_step.specs.FlatMem.{in_ram}
 use Rattle.rv_step.specs.Flat.{in_uart, in_exit, uart_base}
 use Rattle.gm_words.specs.Kind.{kind_of_own}
-use Rattle.gm_words.specs.Packet.{read_response}
+use Rattle.pkt_pool.specs.Packet.{read_response}
 use Rattle.gm_words.specs.Platform.{own_classes, slot_classes}
-use Rattle.gm_words.specs.declared.cmd.Cmd.{Cmd}
-use Rattle.gm_words.specs.declared.cmd.Cmd.TheVariants as cmds
+use Rattle.pkt_pool.specs.declared.cmd.Cmd.{Cmd}
+use Rattle.pkt_pool.specs.declared.cmd.Cmd.TheVariants as cmds
 use Rattle.gm_words.specs.declared.kind.Kind.{Kind}
 use Rattle.gm_words.specs.declared.kind.Kind.TheVariants as kinds
 use Rattle.gm_words.specs.declared.own.Own.{Own}
 use Rattle.gm_words.specs.declared.own.Own.TheVariants as owns
-use Rattle.gm_words.specs.declared.packet.Packet.{Packet}
+use Rattle.pkt_pool.specs.declared.packet.Packet.{Packet}
 use Rattle.gm_model.specs.ObjState.{Device, Memory, Uart, Exit, Timer, UartState, TimerState, device_kind}
 use Rattle.gm_model.specs.Serve.{Served, served}
 use Rattle.gm_model.specs.Memory.{serve_memory}

@@ -5,7 +5,7 @@ use Rattle.gm_model.specs.Server.{functional_read}
 use Rattle.gm_model.specs.ObjState.{ServerState, Device}
 use Rattle.gm_words.specs.Platform.{device_class, own_slot}
 use Rattle.gm_words.specs.Changes.{Change, Schedule, Remove}
-use Rattle.gm_words.specs.declared.packet.Packet.{Packet}
+use Rattle.pkt_pool.specs.declared.packet.Packet.{Packet}
 use Rattle.obj_server.specs.declared.own_event.OwnEvent.{OwnEvent}
 use Rattle.obj_server.specs.declared.own_event.OwnEvent.TheVariants.{Stays, Comes, Goes}
 

@@ -1,6 +1,6 @@
 // What a server notes of a request.
 ghost use Rattle.std.specs.Prelude.{◌≡◌, ◌≤◌, ◌++◌, [], take, drop, replicate};
-ghost use Rattle.gm_words.specs.Packet.{carried_bytes, is_write};
+ghost use Rattle.pkt_pool.specs.Packet.{carried_bytes, is_write};
 ghost use Rattle.gm_words.specs.Entries.{served_entries, entry_bytes};
 ghost use Rattle.obj_core.specs.Out.{HasRoom, extended};
 ghost use Rattle.obj_server.specs.ServedBy.{is_device};

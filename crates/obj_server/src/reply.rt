@@ -1,6 +1,6 @@
 // How a server answers or refuses a request.
 ghost use Rattle.std.specs.Prelude.{◌≡◌, ◌≤◌, [], length, true};
-ghost use Rattle.gm_words.specs.Packet.{read_response as response_with, write_response, fault_response};
+ghost use Rattle.pkt_pool.specs.Packet.{read_response as response_with, write_response, fault_response};
 ghost use Rattle.gm_words.specs.Entries.{served_entries};
 ghost use Rattle.obj_core.specs.Out.{HasRoom, extended};
 ghost use Rattle.obj_server.specs.ServedBy.{is_device};

@@ -1,6 +1,6 @@
 -- What a request to the timer gives, by its register. This project's own rule.
 use Rattle.std.specs.Prelude.{ℕ}
-use Rattle.gm_words.specs.declared.packet.Packet.{Packet}
+use Rattle.pkt_pool.specs.declared.packet.Packet.{Packet}
 use Rattle.gm_model.specs.Serve.{Served}
 use Rattle.gm_model.specs.Timer.{timer_register, timer_read, timer_write}
 use Rattle.obj_timer.specs.State.{timer_of}

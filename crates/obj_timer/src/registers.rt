@@ -1,6 +1,6 @@
 // Which register of the timer a packet is for. The offsets are those of SiFive's timer for one hart.
 ghost use Rattle.std.specs.Prelude.{◌≡◌, ◌≤◌};
-ghost use Rattle.gm_words.specs.Packet.{carried_number};
+ghost use Rattle.gm_words.specs.Numbers.{carried_number};
 ghost use Rattle.gm_model.specs.Timer.{timer_register};
 ghost use Rattle.obj_timer.specs.Registers.{register_of};
 

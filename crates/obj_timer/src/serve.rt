@@ -3,7 +3,7 @@ ghost use Rattle.std.specs.Prelude.{◌≡◌, ◌≤◌, ◌<◌, [], ◌∷◌
 ghost use Rattle.gm_model.specs.ObjState.{Timer as TimerPart};
 ghost use Rattle.gm_words.specs.Platform.{software_line};
 ghost use Rattle.gm_words.specs.declared.act.Act.TheVariants.{SetLine};
-ghost use Rattle.gm_words.specs.declared.cmd.Cmd.TheVariants.{Read, Write};
+ghost use Rattle.pkt_pool.specs.declared.cmd.Cmd.TheVariants.{Read, Write};
 ghost use Rattle.obj_core.specs.Out.{HasRoom, extended};
 ghost use Rattle.obj_server.specs.Device.{own_changes};
 ghost use Rattle.obj_timer.specs.Serves.{serves_read, serves_write};

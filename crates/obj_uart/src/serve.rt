@@ -2,7 +2,7 @@
 ghost use Rattle.std.specs.Prelude.{◌≡◌, ◌+◌, ◌-◌, ◌≤◌, true, if◌then◌else◌};
 ghost use Rattle.gm_model.specs.ObjState.{Uart as UartPart};
 ghost use Rattle.gm_model.specs.Uart.{serve_uart, line_status};
-ghost use Rattle.gm_words.specs.declared.cmd.Cmd.TheVariants.{Read, Write};
+ghost use Rattle.pkt_pool.specs.declared.cmd.Cmd.TheVariants.{Read, Write};
 ghost use Rattle.obj_core.specs.Out.{HasRoom, extended};
 ghost use Rattle.obj_server.specs.Device.{own_changes};
 ghost use Rattle.obj_uart.specs.Registers.{read_value, after_read};

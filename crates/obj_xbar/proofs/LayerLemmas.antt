@@ -3,10 +3,10 @@ use Rattle.std.proofs.Common.{◌≡◌, ℕ, suc, zero, ◌+◌, ◌-◌, ◌�
 use Rattle.std.proofs.lemmas.Bool.{lt-ltb, cases_lt}
 use Rattle.gm_words.specs.Flow.{Queued, OutState, Lane}
 use Rattle.gm_words.specs.PortUses.{is_source, takes, takes_all, use_at, is_total, port_from, source_from, or_first, source_port, last_address}
-use Rattle.gm_words.specs.declared.packet.Packet.{Packet}
+use Rattle.pkt_pool.specs.declared.packet.Packet.{Packet}
 use Rattle.gm_words.specs.declared.port_use.PortUse.{PortUse}
 use Rattle.gm_words.specs.declared.port_use.PortUse.TheVariants as uses
-use Rattle.gm_words.specs.Packet.{top_port}
+use Rattle.pkt_pool.specs.Packet.{top_port}
 use Rattle.gm_model.specs.Xbar.{layer_for, port_or_side}
 
 -- where requests come in there is a port

@@ -1,7 +1,7 @@
 -- The steps of a crossbar, by what its layers hold.
 use Rattle.std.proofs.Common.{◌≡◌, ℕ, zero, suc, ◌+◌, ◌-◌, ◌≤◌, ◌<◌, ◌==◌, ◌&&◌, refl, sym, ◌∙◌, ap, arith, Bool, true, false, if◌then◌else◌, List, [], ◌∷◌, length, slice_set, slice_index_or}
 use Rattle.gm_words.specs.Flow.{Flow, Queued, OutState, Quiet, Due, Asked, Waits, Lane, quiet_flow, empty_lane}
-use Rattle.gm_words.specs.Packet.{top_port}
+use Rattle.pkt_pool.specs.Packet.{top_port}
 use Rattle.gm_words.specs.PortUses.{source_port}
 use Rattle.gm_words.specs.declared.port_use.PortUse.{PortUse}
 use Rattle.gm_model.specs.Flows.{Outlet, still, gone_in, opened, open_in}

@@ -1,13 +1,13 @@
 -- The layer of no port: for which layer it waits, and how its packet goes on. This project's own rules.
 use Rattle.std.specs.Prelude.{ℕ, ◌+◌, ◌==◌, Bool, false, List, [], ◌∷◌, slice_set}
 use Rattle.gm_words.specs.Flow.{Queued, OutState, Quiet, Due, Asked, Waits, Lane}
-use Rattle.gm_words.specs.Packet.{popped, top_port}
+use Rattle.pkt_pool.specs.Packet.{popped, top_port}
 use Rattle.gm_words.specs.PortUses.{source_port}
 use Rattle.gm_model.specs.Flows.{Moved, LaneMoved, put_in}
 use Rattle.gm_model.specs.ObjState.{Xbar, XbarState}
 use Rattle.gm_model.specs.Stepped.{Stepped, stays}
 use Rattle.gm_model.specs.Xbar.{lane_at, xbar_outlet, side_opened}
-use Rattle.gm_words.specs.declared.packet.Packet.{Packet}
+use Rattle.pkt_pool.specs.declared.packet.Packet.{Packet}
 use Rattle.gm_words.specs.declared.port_use.PortUse.{PortUse}
 
 -- its packet waits, and its request came in by the port

@@ -3,7 +3,7 @@ ghost use Rattle.std.specs.Prelude.{◌≡◌, ◌+◌, ◌<◌, ◌≤◌, [], 
 ghost use Rattle.gc_base.specs.declared.limits.TheConstants.{LATENCY_MAX};
 ghost use Rattle.gm_words.specs.Allowed.{MayPass, MayCome};
 ghost use Rattle.gm_words.specs.Flow.{empty_lane};
-ghost use Rattle.gm_words.specs.Packet.{is_response};
+ghost use Rattle.pkt_pool.specs.Packet.{is_response};
 ghost use Rattle.gm_words.specs.PortUses.{xbar_classes, used, is_total};
 ghost use Rattle.gm_words.specs.Slots.{gave_from};
 ghost use Rattle.gm_words.specs.declared.wake.Wake.TheVariants as wakes;

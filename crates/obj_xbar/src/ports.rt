@@ -2,7 +2,7 @@
 ghost use Rattle.std.specs.Prelude.{◌≡◌, ℕ, ◌+◌, ◌<◌, ◌≤◌, length, false, IsTrue, IsFalse, IfOk};
 ghost use Rattle.gm_words.specs.Allowed.{MayPass};
 ghost use Rattle.gm_words.specs.Changes.{changed};
-ghost use Rattle.gm_words.specs.Packet.{is_response, top_port};
+ghost use Rattle.pkt_pool.specs.Packet.{is_response, top_port};
 ghost use Rattle.gm_words.specs.PortUses.{xbar_classes, used, fore, behind, sides, source_port, slot_of_port, class_of_port, side_slot, request_class, is_total, port_of_slot, is_side_slot};
 ghost use Rattle.gm_words.specs.Slots.{gave_from};
 ghost use Rattle.gm_model.specs.Flows.{has_room, put_in};

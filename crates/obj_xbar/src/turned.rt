@@ -1,6 +1,6 @@
 // How a packet is changed on its way through a crossbar.
 ghost use Rattle.std.specs.Prelude.{◌≡◌, ◌<◌};
-ghost use Rattle.gm_words.specs.Packet.{is_response};
+ghost use Rattle.pkt_pool.specs.Packet.{is_response};
 ghost use Rattle.gm_model.specs.Xbar.{turned as turned_at};
 ghost use Rattle.obj_core.specs.May.{HasPlace};
 

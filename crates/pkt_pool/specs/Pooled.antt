@@ -1,6 +1,6 @@
 -- A pool of packets as contracts see it. This project's own rule.
 use Rattle.std.specs.Prelude.{◌≡◌, ◌≢◌, ℕ, List, Option, None, is_some, count_by, slice_index_or}
-use Rattle.gm_words.specs.declared.packet.Packet.{Packet}
+use Rattle.pkt_pool.specs.declared.packet.Packet.{Packet}
 
 -- which packet each key from 0 on holds, if it holds one, and how many packets there is room for
 pub record Pooled : Type 0 where

@@ -2,8 +2,8 @@
 ghost use Rattle.std.specs.Prelude.{◌≡◌, ◌+◌, ◌<◌, ◌≤◌, [], Some, None, IfOk, OnSome, IfNone, option_copied};
 ghost use Rattle.pkt_pool.specs.Pooled.{packet_at, count, Changes};
 
+use crate::packet::Packet;
 use gc_base::NoMemory;
-use gm_words::Packet;
 use slab::Slab;
 use std::alloc::Global;
 use std::marker::Model;
@@ -71,8 +71,8 @@ impl Pool {
 #[cfg(test)]
 mod tests {
     use super::*;
+    use crate::cmd::Cmd;
     use gc_base::PktId;
-    use gm_words::Cmd;
     use std::test::Fail;
 
     /// A read with a number.

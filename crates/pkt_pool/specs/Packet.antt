@@ -1,13 +1,16 @@
 -- Packets: how they are made, what they carry, and how they become responses. This project's own rules.
-use Rattle.std.specs.Prelude.{ℕ, ◌+◌, ◌-◌, Bool, true, false, List, ◌++◌, length, take, drop, replicate, slice_index, slice_set}
-use Rattle.rv_step.specs.Bytes.{number}
-use Rattle.gm_words.specs.declared.cmd.Cmd.{Cmd}
-use Rattle.gm_words.specs.declared.cmd.Cmd.TheVariants as cmds
-use Rattle.gm_words.specs.declared.packet.Packet.{Packet}
+use Rattle.std.specs.Prelude.{ℕ, ◌+◌, ◌-◌, nat_lt, if◌then◌else◌, Bool, true, false, List, ◌++◌, length, take, drop, replicate, slice_index, slice_set}
+use Rattle.pkt_pool.specs.declared.cmd.Cmd.{Cmd}
+use Rattle.pkt_pool.specs.declared.cmd.Cmd.TheVariants as cmds
+use Rattle.pkt_pool.specs.declared.packet.Packet.{Packet}
+
+-- a stack of this depth with one port more; a full stack of 8 stays as it is
+abbrev pub depth_with : ℕ → ℕ
+depth_with depth = if nat_lt depth 8 then depth + 1 else depth
 
 -- the packet with a port on top of its stack
 abbrev pub pushed : Packet → ℕ → Packet
-pushed p port = record p { stack = slice_set p.stack p.depth port; depth = p.depth + 1 }
+pushed p port = record p { stack = slice_set p.stack p.depth port; depth = depth_with p.depth }
 
 -- the port on top of its stack
 abbrev pub top_port : Packet → ℕ
@@ -20,10 +23,6 @@ popped p = record p { depth = p.depth - 1 }
 -- the bytes that are read or written
 abbrev pub carried_bytes : Packet → List ℕ
 carried_bytes p = take p.size p.bytes
-
--- their number
-abbrev pub carried_number : Packet → ℕ
-carried_number p = number (carried_bytes p)
 
 -- a packet's bytes with others in front
 abbrev pub with_front : List ℕ → List ℕ → List ℕ
@@ -83,11 +82,3 @@ is_write cmds.Write = true
 is_write cmds.WriteBack = true
 is_write cmds.ReadResp = false
 is_write cmds.WriteResp = true
-
--- the number that a response brings to who asked: a read's, else 0
-abbrev pub response_number : Packet → Cmd → ℕ
-response_number p cmds.ReadResp = carried_number p
-response_number p cmds.Read = 0
-response_number p cmds.Write = 0
-response_number p cmds.WriteBack = 0
-response_number p cmds.WriteResp = 0

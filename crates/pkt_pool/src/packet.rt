@@ -1,6 +1,6 @@
 // What the parts send to each other.
-ghost use Rattle.std.specs.Prelude.{◌≡◌, ◌<◌, ◌≤◌, length};
-ghost use Rattle.gm_words.specs.Packet.{pushed, popped, top_port, with_front, read_response, fault_response, is_response, is_write_back};
+ghost use Rattle.std.specs.Prelude.{◌≡◌, ◌≤◌, length};
+ghost use Rattle.pkt_pool.specs.Packet.{pushed, popped, top_port, with_front, read_response, fault_response, is_response, is_write_back};
 
 use crate::cmd::Cmd;
 use gc_base::{PktId, PortNo};
@@ -40,13 +40,14 @@ pub struct Packet {
 }
 
 impl Packet {
-    /// Notes the port by which the request came.
+    /// Notes the port by which the request came, where the stack has a place.
     pub fn push_port(&mut self, port: PortNo)
-        requires { self.old.depth < 8 }
         ensures { self.new ≡ pushed self.old port.0 }
     {
-        self.stack[self.depth as usize] = port.0;
-        self.depth += 1;
+        if self.depth < 8 {
+            self.stack[self.depth as usize] = port.0;
+            self.depth += 1;
+        }
     }
 
     /// Takes off the port that was noted last: where the response goes.
