@@ -19,13 +19,13 @@ still s = (s.counts, s.trace)
 passed_kept : (n : ℕ) (d : Delivery) (j k : ℕ) (p : Packet) (before : ℕ) → still (deliver_atomic n d j k p before).sys ≡ still d.sys
 unfolding deliver_atomic
 passed_kept zero d j k p before = refl
-passed_kept (suc n) d j k p before = by_way (pass_at d.sys k p).way where
+passed_kept (suc n) d j k p before = by_way (λ port total. passed_kept n (deliver_passed d k p) j (peer_in d.sys.wires k port).part (pass_at d.sys k p).packet total) (pass_at d.sys k p).way where
   on : ℕ → ℕ → Delivery
   on port total = deliver_atomic n (deliver_passed d k p) j (peer_in d.sys.wires k port).part (pass_at d.sys k p).packet total
 
-  by_way : (w : Way) → still (pass_way on (deliver_passed d k p) j (pass_at d.sys k p).packet before w).sys ≡ still d.sys
-  by_way (ways.Pass port latency) = passed_kept n (deliver_passed d k p) j (peer_in d.sys.wires k port.0).part (pass_at d.sys k p).packet (before + latency)
-  by_way (ways.Done latency) = refl
+  by_way : ((port total : ℕ) → still (on port total).sys ≡ still d.sys) → (w : Way) → still (pass_way on (deliver_passed d k p) j (pass_at d.sys k p).packet before w).sys ≡ still d.sys
+  by_way more (ways.Pass port latency) = more port.0 (before + latency)
+  by_way more (ways.Done latency) = refl
 
 kept : (d : Delivery) (i : Item) → still (handle d i).sys ≡ still d.sys
 kept d (Sent j (acts.Offer port p)) = refl
@@ -62,7 +62,7 @@ wake_least d i w = omega (arith, length-append d.items (sent_by i (step_at d.sys
 passed_least : (n : ℕ) (d : Delivery) (j k : ℕ) (p : Packet) (before : ℕ) → length d.items ≤ length (deliver_atomic n d j k p before).items
 unfolding deliver_atomic
 passed_least zero d j k p before = omega (arith, length-append d.items (Done j p before ∷ []))
-passed_least (suc n) d j k p before = by_way (pass_at d.sys k p).way where
+passed_least (suc n) d j k p before = by_way (λ port total. passed_least n (deliver_passed d k p) j (peer_in d.sys.wires k port).part (pass_at d.sys k p).packet total) (pass_at d.sys k p).way where
   e : Delivery
   e = deliver_passed d k p
 
@@ -72,9 +72,9 @@ passed_least (suc n) d j k p before = by_way (pass_at d.sys k p).way where
   on : ℕ → ℕ → Delivery
   on port total = deliver_atomic n e j (peer_in d.sys.wires k port).part (pass_at d.sys k p).packet total
 
-  by_way : (w : Way) → length d.items ≤ length (pass_way on e j (pass_at d.sys k p).packet before w).items
-  by_way (ways.Pass port latency) = omega (arith, more, passed_least n e j (peer_in d.sys.wires k port.0).part (pass_at d.sys k p).packet (before + latency))
-  by_way (ways.Done latency) = omega (arith, more, length-append e.items (Done j (pass_at d.sys k p).packet (before + latency) ∷ []))
+  by_way : ((port total : ℕ) → length e.items ≤ length (on port total).items) → (w : Way) → length d.items ≤ length (pass_way on e j (pass_at d.sys k p).packet before w).items
+  by_way goes (ways.Pass port latency) = omega (arith, more, goes port.0 (before + latency))
+  by_way goes (ways.Done latency) = omega (arith, more, length-append e.items (Done j (pass_at d.sys k p).packet (before + latency) ∷ []))
 
 handle_least : (d : Delivery) (i : Item) → length d.items ≤ length (handle d i).items
 handle_least d (Sent j (acts.Offer port p)) =

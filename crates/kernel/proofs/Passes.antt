@@ -1,5 +1,5 @@
 -- A packet that is passed at once, part by part.
-use Rattle.std.proofs.Common.{◌≡◌, ℕ, suc, zero, ◌+◌, ◌-◌, ◌*◌, ◌<◌, ◌≤◌, length, refl, sym, ◌∙◌, ap, subst, arith}
+use Rattle.std.proofs.Common.{◌≡◌, ℕ, suc, zero, ◌+◌, ◌-◌, ◌*◌, ◌<◌, ◌≤◌, List, length, refl, sym, ◌∙◌, ap, subst, arith}
 use Rattle.ev_queue.specs.declared.slot.Slot.{Slot}
 use Rattle.gc_base.specs.declared.ids.PortNo.{PortNo}
 use Rattle.gm_words.specs.Platform.{End}
@@ -38,7 +38,7 @@ module _ (d e : Delivery) (table : List Slot) (first k before n : ℕ) (p x : Pa
   -- the part is ready for it
   pub part_ready : (table' : List Slot) → table' ≡ table → IsReadyForPacket e table' k x
   part_ready table' t =
-      let here : IsReadyForPacket d table k p = may.parts k (way_part (8 - (n + 1)) k d.sys p way_here) in
+      let here : IsReadyForPacket d table k p = may.parts k (way_part (suc (8 - (n + 1))) k d.sys p way_here) in
       subst (λ u. IsReadyForPacket u table' k x) (sym h.same) (subst (λ y. IsReadyForPacket d table' k y) (sym h.packet) (subst (λ u. IsReadyForPacket d u k p) (sym t) here))
 
   module _ (f : Delivery) (y : Packet) (w : Way) (passed : f ≡ deliver_passed e k x) (packet : y ≡ (pass_at e.sys k x).packet) (way : w ≡ (pass_at e.sys k x).way) where

@@ -201,7 +201,7 @@ classes_kept c (suc (suc (suc (suc (suc (suc (suc (suc n)))))))) p l e = absurd 
 -- and they are few
 pub few_classes : (c : Config) → AreFew (platform c)
 unfolding used fore is_total
-few_classes c = (omega arith, omega arith, omega arith, omega arith, omega arith, omega arith, omega arith, omega arith, tt)
+few_classes c = (omega arith, (omega arith, (omega arith, (omega arith, (omega arith, (omega arith, (omega arith, (omega arith, tt))))))))
 
 pub few_at : (ps : List Part) (n : ℕ) (p : Part) → AreFew ps → n < length ps → p ≡ get_or ps n p → length (part_classes p) ≤ 255
 few_at [] n p f l e = absurd (omega arith)

@@ -1,5 +1,5 @@
 -- What one wake, or one packet that is passed on, needs in the middle of an event, and what an event's items need.
-use Rattle.std.specs.Prelude.{◌≡◌, ℕ, ◌+◌, ◌*◌, ◌^◌, ◌<◌, ◌≤◌, List, ◌∷◌, length, drop}
+use Rattle.std.specs.Prelude.{◌≡◌, ℕ, ◌+◌, ◌*◌, ◌^◌, ◌<◌, ◌≤◌, List, [], ◌∷◌, length, drop}
 use Rattle.gc_base.specs.declared.ids.PortNo.{PortNo}
 use Rattle.gc_base.specs.declared.limits.TheConstants.{LATENCY_MAX, TOP}
 use Rattle.ev_queue.specs.PendingList.{rest}

@@ -1,5 +1,5 @@
 // How a machine is built: its parts are configured, each with its handles.
-ghost use Rattle.std.specs.Prelude.{◌≡◌, ◌^◌, ◌<◌, [], length, map, true, IsTrue, Some, None, IfOk, OnOk, IfErr, false};
+ghost use Rattle.std.specs.Prelude.{◌≡◌, ◌≤◌, [], length, map, true, IsTrue, Some, None, IfOk, OnOk, IfErr, false};
 ghost use Rattle.ev_queue.specs.SlotTable.{is_free, granted, all_slots};
 ghost use Rattle.rv_step.specs.FlatMem.{ram_base};
 ghost use Rattle.gm_words.specs.Allowed.{IsAllowed};
@@ -97,6 +97,7 @@ fn add_handle(
 fn all_handles(alloc: Global, queue: &mut EventQueue, params: &Params) -> Result<Handles, NoMemory>
     requires free { AreFree queue.old.table params.now.object.0 0 (own_classes params.now.own) }
     requires kept { IsTrue (are_kept (own_classes params.now.own)) }
+    requires few { length (own_classes params.now.own) ≤ 255 }
     ensures handles { IfOk result (AreHandlesOf params.now) }
     ensures queue { OnOk result (queue.new ≡ record queue.old {
       table = all_granted queue.old.table params.now.object.0 0 (own_classes params.now.own);
@@ -130,6 +131,7 @@ fn configure_part(
     requires part { IsPart (kind_of_own own) (state part.old) }
     requires free { AreFree queue.old.table object.0 0 (own_classes own) }
     requires kept { IsTrue (are_kept (own_classes own)) }
+    requires few { length (own_classes own) ≤ 255 }
     ensures part { OnOk result (state part.new
         ≡ cpu_started ram_base c.now.system_model (start_of (params_of c.now object.0 own) own)) }
     ensures queue { OnOk result (queue.new ≡ record queue.old {
@@ -266,9 +268,10 @@ impl Machine {
         ensures named { IfOk result (λ m. named_of m ≡ named_by c.now) }
     {
         let counters = Counters::new(alloc, c)?;
+        let board = Board::new(rows);
         let tick = counters.since();
         Ok(Machine {
-            board: Board::new(rows),
+            board,
             parts,
             queue,
             out: Outbox::new(alloc)?,

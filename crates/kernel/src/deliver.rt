@@ -260,7 +260,7 @@ impl Machine {
     {
         let mut part = first;
         let mut before = 0;
-        'parts: for _ in 0..PASSES_MAX {
+        'parts: for _n in 0..PASSES_MAX {
             match self.pass_to(part, packet) {
                 Way::Done { latency } => return before + latency,
                 Way::Pass { port, latency } => {

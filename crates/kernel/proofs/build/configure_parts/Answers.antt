@@ -1,4 +1,4 @@
-use Rattle.std.proofs.Common.{arith, sym, ap, subst, ◌∙◌, IsTrue, List}
+use Rattle.std.proofs.Common.{arith, sym, ap, subst, ◌∙◌, ◌≤◌, IsTrue, List, length}
 use Rattle.ev_queue.specs.Queue.{Queue}
 use Rattle.ev_queue.specs.declared.slot.Slot.{Slot}
 use Rattle.rv_step.specs.FlatMem.{ram_base}
@@ -12,7 +12,7 @@ use Rattle.gm_model.specs.Start.{params_of, cpu_started}
 use Rattle.kernel.specs.Build.{IsPart, AreFree, all_granted, are_kept}
 use Rattle.kernel.proofs.Draws.{box_part, box_done, boxes_length, all_done, row_allowed}
 use Rattle.kernel.proofs.Rows.{row_of, rows_length}
-use Rattle.kernel.proofs.Tables.{place_free, place_given, classes_kept}
+use Rattle.kernel.proofs.Tables.{place_free, place_given, classes_kept, few_at, few_classes}
 use Rattle.kernel.proofs.build.configure_parts.Goals as goal
 
 pub index_mut-requires : goal.index_mut-requires
@@ -45,6 +45,12 @@ configure_part-requires-clause-kept g c =
     let x = c.index-rows-i.result in
     let at = row_of c.args.rows.now (platform c.args.c.now) c.loop-i.i x c.requires.rows c.loop-i-test.true c.index-rows-i.is in
     subst (λ (y : KeptPart). IsTrue (are_kept (own_classes y.own))) c.index-rows-i.is (classes_kept c.args.c.now c.loop-i.i (part_shown x) at.0 at.1)
+
+pub configure_part-requires-clause-few : goal.configure_part-requires-clause-few
+configure_part-requires-clause-few g c =
+    let x = c.index-rows-i.result in
+    let at = row_of c.args.rows.now (platform c.args.c.now) c.loop-i.i x c.requires.rows c.loop-i-test.true c.index-rows-i.is in
+    subst (λ (y : KeptPart). length (own_classes y.own) ≤ 255) c.index-rows-i.is (few_at (platform c.args.c.now) c.loop-i.i (part_shown x) (few_classes c.args.c.now) at.0 at.1)
 
 pub loop-i-preserved : goal.loop-i-preserved
 loop-i-preserved g c =
