@@ -6,7 +6,7 @@ use Rattle.gm_model.specs.Fire.{fire}
 use Rattle.gm_model.specs.Deliver.{deliver, deliver_atomic}
 use Rattle.gm_model.specs.ObjectStep.{object_step, atomic_step}
 use Rattle.gm_model.specs.Flows.{is_listed}
-use Rattle.gm_model.specs.Xbar.{layer_for, layer_of, are_idle}
+use Rattle.gm_model.specs.Xbar.{layer_for, layer_of}
 use Rattle.gm_words.specs.PortUses.{used, fore, is_total, port_from, source_from}
 use Rattle.rv_table.specs.Table.{decode_of}
 use Rattle.rv_step.specs.Demand.{need, need_of}
