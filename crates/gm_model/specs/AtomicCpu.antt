@@ -1,6 +1,6 @@
 -- The atomic CPU: one instruction at each event, with its accesses passed at once.
 -- This project's own rule; what an instruction does is the instruction set's.
-use Rattle.std.specs.Prelude.{ℕ, ◌+◌, ◌==◌, ◌&&◌, ◌||◌, Bool, true, false, not, if◌then◌else◌, List, [], ◌∷◌, take, Option, Some, None}
+use Rattle.std.specs.Prelude.{ℕ, ◌+◌, ◌==◌, ◌&&◌, Bool, true, false, not, if◌then◌else◌, [], ◌∷◌, take, Option, Some, None}
 use Rattle.rv_step.specs.declared.arch.Arch.{Arch}
 use Rattle.rv_step.specs.declared.demand.Demand.{Demand}
 use Rattle.rv_step.specs.declared.demand.Demand.TheVariants as demand

@@ -4,7 +4,7 @@ use Rattle.ev_queue.specs.declared.due.Due.{Due}
 use Rattle.gm_words.specs.Flow.{Lane}
 use Rattle.gm_words.specs.Platform.{own_slot}
 use Rattle.pkt_pool.specs.declared.packet.Packet.{Packet}
-use Rattle.gm_model.specs.ObjState.{ObjState, Blank, AtomicCpu, TimingCpu, Xbar, Server, TimingStage, Between, Fetch, Ready, Data, Device, Memory, Uart, Exit, Timer}
+use Rattle.gm_model.specs.ObjState.{ObjState, Blank, AtomicCpu, TimingCpu, Xbar, Server, Device, Memory, Uart, Exit, Timer}
 use Rattle.gm_model.specs.Command.{is_drained}
 use Rattle.gm_model.specs.Sys.{Sys, object_at}
 use Rattle.gm_model.specs.View.{queued_packets, stage_packets}

@@ -1,5 +1,6 @@
 -- Small runs, computed: a program of five words stores a byte to the UART and exits, in both modes; one of eleven words sleeps until the
--- timer wakes it; and one of one word loads from an address of no range in the timing mode. This project's own examples.
+-- timer wakes it; and, in the timing mode, one of one word loads from an address of no range, and one of fifteen words is interrupted while
+-- a load is on its way. This project's own examples.
 use Rattle.std.specs.Prelude.{◌≡◌, ℕ, zero, suc, true, false, List, [], ◌∷◌, ◌++◌, Option, Some, None}
 use Rattle.ev_queue.specs.declared.due.Due.{Due}
 use Rattle.ev_queue.specs.PendingList.{first}
@@ -47,6 +48,15 @@ abbrev pub sleep_and_exit : List ℕ
 sleep_and_exit =
     bytes_of 4 0x02004537 ++ bytes_of 4 0x0c800293 ++ bytes_of 4 0x00000397 ++ bytes_of 4 0x0253b423 ++ bytes_of 4 0x0283b283 ++ bytes_of 4 0x00553023
     ++ bytes_of 4 0x08000313 ++ bytes_of 4 0x30432073 ++ bytes_of 4 0x10500073 ++ bytes_of 4 0x001005b7 ++ bytes_of 4 0x0005a023
+
+-- auipc x7, 0; addi x7, x7, 56; csrrw x0, mtvec, x7; addi x6, x0, 128; csrrs x0, mie, x6; csrrsi x0, mstatus, 8; lui x10, 0x2004;
+-- addi x5, x0, 145; lui x11, 0x100; sd x5, 0(x10); lui x12, 0x200c; ld x8, -8(x12); addi x8, x0, 0; sw x8, 0(x11);
+-- and, where interrupts enter: sw x8, 0(x11)
+abbrev pub read_clock_and_exit : List ℕ
+read_clock_and_exit =
+    bytes_of 4 0x00000397 ++ bytes_of 4 0x03838393 ++ bytes_of 4 0x30539073 ++ bytes_of 4 0x08000313 ++ bytes_of 4 0x30432073 ++ bytes_of 4 0x30046073
+    ++ bytes_of 4 0x02004537 ++ bytes_of 4 0x09100293 ++ bytes_of 4 0x001005b7 ++ bytes_of 4 0x00553023 ++ bytes_of 4 0x0200c637 ++ bytes_of 4 0xff863403
+    ++ bytes_of 4 0x00000413 ++ bytes_of 4 0x0085a023 ++ bytes_of 4 0x0085a023
 
 -- lb x5, 0(x0)
 abbrev pub load_of_nobody : List ℕ
@@ -113,3 +123,12 @@ pub record RunsInTime : Type 0 where
       ≡ record { reason = reasons.Exit 0; tick = 7250; insts = 4; events = 41; console = 1 ∷ [] }
   pub refused : report_of (run_to (timed_machine_with load_of_nobody) (record { until = untils.Tick 2999; budget = 1000000 }))
       ≡ record { reason = reasons.Tick; tick = 2400; insts = 0; events = 11; console = [] }
+
+-- the load is offered at tick 14000, and at tick 14400 the timer serves it: its clock stands at 144. At tick 14500 the clock comes to 145 and
+-- its line rises, while the response is on its way; the load retires at tick 14600, and only then, at tick 15000, is the interrupt entered.
+-- So the number that was read is the exit number; else it would be 0
+pub record RunsAsTheLineRises : Type 0 where
+  pub as_it_rises : report_of (run_to (timed_machine_with read_clock_and_exit) (record { until = untils.Tick 14500; budget = 1000000 }))
+      ≡ record { reason = reasons.Tick; tick = 14500; insts = 11; events = 84; console = [] }
+  pub to_the_end : report_of (run_to (timed_machine_with read_clock_and_exit) (record { until = untils.End; budget = 1000000 }))
+      ≡ record { reason = reasons.Exit 144; tick = 17250; insts = 12; events = 96; console = [] }

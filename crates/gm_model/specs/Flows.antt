@@ -1,6 +1,6 @@
 -- The steps of flows and lanes: a packet comes in, is offered, is held or gone, and who waits is called. This project's own rules,
 -- which crossbars and servers share.
-use Rattle.std.specs.Prelude.{ℕ, ◌+◌, Bool, true, false, ◌&&◌, ◌||◌, List, [], ◌∷◌, ◌++◌, Option, Some, None, length, nat_lt, ◌==◌, if◌then◌else◌}
+use Rattle.std.specs.Prelude.{ℕ, Bool, true, false, ◌||◌, List, [], ◌∷◌, ◌++◌, Option, Some, None, length, nat_lt, ◌==◌, if◌then◌else◌}
 use Rattle.gm_words.specs.Changes.{Change, Schedule}
 use Rattle.gm_words.specs.declared.act.Act.{Act}
 use Rattle.gm_words.specs.declared.act.Act.TheVariants as acts

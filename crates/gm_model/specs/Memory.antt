@@ -1,6 +1,6 @@
 -- Memory: RAM as one list of bytes. This project's own rules: which accesses there are, and what they answer.
 use Rattle.std.specs.Prelude.{ℕ, ◌+◌, ◌-◌, nat_le, nat_lt, ◌&&◌, Bool, true, false, if◌then◌else◌, List, [], ◌∷◌, ◌++◌, take, drop, length, Option, Some, None}
-use Rattle.rv_step.specs.FlatMem.{in_ram, ram_put}
+use Rattle.rv_step.specs.FlatMem.{ram_put}
 use Rattle.gm_words.specs.Entries.{ram_bytes}
 use Rattle.gm_words.specs.Flow.{Queued}
 use Rattle.pkt_pool.specs.Packet.{carried_bytes, is_write_back, read_response, write_response}

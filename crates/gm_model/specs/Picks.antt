@@ -1,6 +1,6 @@
 -- A machine whose events are served in any order, with commands between them. This project's own rule: the theorems on runs
 -- stand on no order of events.
-use Rattle.std.specs.Prelude.{ℕ, ◌&&◌, nat_le, Bool, if◌then◌else◌, List, [], ◌∷◌, ◌++◌, map}
+use Rattle.std.specs.Prelude.{ℕ, ◌&&◌, nat_le, if◌then◌else◌, List, [], ◌∷◌, ◌++◌, map}
 use Rattle.gc_base.specs.declared.limits.TheConstants.{TOP}
 use Rattle.gm_words.specs.Moves.{Moves, no_moves, joined}
 use Rattle.gm_words.specs.declared.entry.Entry.{Entry}

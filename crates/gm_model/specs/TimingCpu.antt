@@ -1,6 +1,6 @@
 -- The timing CPU: fetch and data access are offered, and their responses come as offers.
 -- This project's own rule; what an instruction does is the instruction set's.
-use Rattle.std.specs.Prelude.{ℕ, ◌+◌, ◌==◌, ◌&&◌, ◌||◌, Bool, true, false, not, if◌then◌else◌, List, [], ◌∷◌, take, Option, Some, None}
+use Rattle.std.specs.Prelude.{ℕ, ◌+◌, ◌==◌, ◌&&◌, Bool, true, false, not, if◌then◌else◌, List, [], ◌∷◌, take, Option, Some, None}
 use Rattle.rv_step.specs.declared.arch.Arch.{Arch}
 use Rattle.rv_step.specs.declared.demand.Demand.{Demand}
 use Rattle.rv_step.specs.declared.demand.Demand.TheVariants as demand
@@ -12,13 +12,12 @@ use Rattle.gm_model.specs.Accesses.{fetch_request, load_request, store_request}
 use Rattle.gm_model.specs.Flows.{offer_at}
 use Rattle.gm_words.specs.HartLine.{with_line, next_multiple}
 use Rattle.gm_words.specs.Platform.{is_in_ram, fetch_port, data_port, fetch_source, data_source, cpu_slot, cpu_class}
-use Rattle.gm_model.specs.ObjState.{ObjState, TimingCpu, TimingCpuState, common_start, TimingStage, Between, Fetch, Ready, Data, Hand, Asks, Held, Away}
+use Rattle.gm_model.specs.ObjState.{ObjState, TimingCpu, TimingCpuState, common_start, TimingStage, Between, Fetch, Ready, Data, Asks, Held, Away}
 use Rattle.gm_words.specs.Changes.{Change, Schedule, Remove}
 use Rattle.gm_words.specs.Moves.{no_moves}
 use Rattle.gm_words.specs.declared.params.Params.{Params}
 use Rattle.gm_model.specs.Stepped.{Stepped, Commanded, answering, stays, drops}
 use Rattle.gm_words.specs.declared.act.Act.{Act}
-use Rattle.gm_words.specs.declared.answer.Answer.{Answer}
 use Rattle.gm_words.specs.declared.answer.Answer.TheVariants as answers
 use Rattle.gm_words.specs.declared.entry.Entry.{Entry}
 use Rattle.gm_words.specs.declared.entry.Entry.TheVariants as entries

@@ -1,12 +1,10 @@
 -- The crossbar: a layer for each port at which it offers, and one for addresses of no port. A packet stands in a layer for a latency,
 -- and then goes on as soon as its receiver takes it. This project's own rule.
-use Rattle.std.specs.Prelude.{ℕ, suc, zero, ◌+◌, ◌-◌, ◌==◌, nat_lt, ◌&&◌, ◌||◌, Bool, true, false, not, if◌then◌else◌, List, [], ◌∷◌, ◌++◌, length, replicate, Option, Some, None, slice_index_or, slice_set}
-use Rattle.gm_words.specs.Changes.{Change}
-use Rattle.gm_words.specs.Flow.{Queued, OutState, Quiet, Due, Asked, Waits, Flow, Lane, quiet_flow, empty_lane}
+use Rattle.std.specs.Prelude.{ℕ, ◌+◌, ◌-◌, ◌==◌, nat_lt, ◌&&◌, Bool, true, false, if◌then◌else◌, List, [], ◌∷◌, ◌++◌, length, replicate, Option, Some, None, slice_index_or, slice_set}
+use Rattle.gm_words.specs.Flow.{Queued, OutState, Quiet, Due, Asked, Waits, Lane, quiet_flow, empty_lane}
 use Rattle.gm_words.specs.Moves.{Moves, no_moves}
-use Rattle.pkt_pool.specs.Packet.{pushed, popped, top_port, is_response, is_write_back, fault_response, read_response, carried_bytes}
+use Rattle.pkt_pool.specs.Packet.{pushed, popped, top_port, is_response, is_write_back, fault_response, read_response}
 use Rattle.gm_words.specs.PortUses.{used, port_from, source_port, slot_of_port, class_of_port, port_of_slot, side_slot, is_side_slot, request_class}
-use Rattle.gm_words.specs.declared.act.Act.{Act}
 use Rattle.gm_words.specs.declared.answer.Answer.{Answer}
 use Rattle.gm_words.specs.declared.answer.Answer.TheVariants as answers
 use Rattle.gm_words.specs.declared.entry.Entry.{Entry}
@@ -129,13 +127,13 @@ side_goes s next p x y now =
 -- else it waits, behind those that wait for that layer
 abbrev pub side_waits : XbarState → ℕ → ℕ → Packet → Packet → List Queued → Stepped
 side_waits s next p x y xs = record (stays (Xbar (record s {
-    side = record {
-      lane = record s.side.lane { flow = record { items = record { packet = y; ready = 0 } ∷ xs; out = Waits } };
-      ahead = length (lane_at s.lanes p).waiting;
-    }
-  })) next) {
-    moves = record no_moves { served = record { request = x; response = y } ∷ [] };
-  }
+  side = record {
+    lane = record s.side.lane { flow = record { items = record { packet = y; ready = 0 } ∷ xs; out = Waits } };
+    ahead = length (lane_at s.lanes p).waiting;
+  };
+})) next) {
+  moves = record no_moves { served = record { request = x; response = y } ∷ [] };
+}
 
 -- a write-back of no port ends here
 abbrev pub side_drops : XbarState → ℕ → Packet → Stepped

@@ -1,5 +1,5 @@
 // What the definitions of runs say, each as the contract of a function that does nothing.
-ghost use Rattle.gm_model.specs.Example.{RunsStoreAndExit, RunsAsTheTimerWakes, RunsInTime};
+ghost use Rattle.gm_model.specs.Example.{RunsStoreAndExit, RunsAsTheTimerWakes, RunsInTime, RunsAsTheLineRises};
 ghost use Rattle.gm_model.specs.Run.{RunsEnd};
 
 /// A run to a goal ends after the least number of events for which there is a reason, and with the first that holds.
@@ -20,4 +20,9 @@ pub fn runs_as_the_timer_wakes()
 /// What the examples run to in the timing mode: computed, and not a law.
 pub fn runs_in_time()
     ensures { RunsInTime }
+{}
+
+/// What the example runs to whose load is on its way as the timer's line rises: computed, and not a law.
+pub fn runs_as_the_line_rises()
+    ensures { RunsAsTheLineRises }
 {}

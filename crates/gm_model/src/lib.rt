@@ -11,4 +11,6 @@ pub use gm_words::{
     Act, Answer, CacheConfig, Caches, Cmd, Config, DmaConfig, Entry, Goal, Kind, Own, Packet,
     Params, PortUse, Reason, Until, Wake, Way, platform,
 };
-pub use laws::{runs_as_the_timer_wakes, runs_end, runs_in_time, runs_store_and_exit};
+pub use laws::{
+    runs_as_the_line_rises, runs_as_the_timer_wakes, runs_end, runs_in_time, runs_store_and_exit,
+};

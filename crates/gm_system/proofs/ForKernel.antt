@@ -1,5 +1,5 @@
 -- What the machine's code needs of the theorems: the one module of this crate that proofs above it cite. No kind is named here.
-use Rattle.std.proofs.Common.{◌≡◌, ℕ, zero, suc, ◌+◌, ◌-◌, ◌*◌, ◌^◌, ◌<◌, ◌≤◌, IsTrue, Bool, true, false, is_some, IfSome, List, [], ◌∷◌, ◌++◌, refl, sym, ◌∙◌, ap, subst, arith, Option, Some, None, ◌⊎◌, inl, inr, length, get_or, sum_by, slice_get, option_map}
+use Rattle.std.proofs.Common.{◌≡◌, ℕ, zero, suc, ◌+◌, ◌-◌, ◌*◌, ◌<◌, ◌≤◌, IsTrue, Bool, IfSome, List, [], ◌∷◌, ◌++◌, refl, sym, ◌∙◌, ap, subst, arith, Option, Some, None, ◌⊎◌, inl, inr, length, sum_by, slice_get, option_map}
 use Rattle.std.proofs.lemmas.Bool.{cases_eq}
 use Rattle.std.proofs.lemmas.List.Sums.{sum_by-cons}
 use Rattle.gc_base.specs.declared.ids.PortNo.{PortNo}
@@ -26,7 +26,7 @@ use Rattle.gm_model.specs.Fire.{taken_out, event_begun, fire, timed_run}
 use Rattle.gm_model.specs.ObjState.{ObjState, object_of, slots_of}
 use Rattle.gm_model.specs.Sys.{Sys, object_at, peer_in, step_at, pass_at, woken, active_cpu}
 use Rattle.gm_model.specs.Picks.{Input, picked}
-use Rattle.gm_model.specs.View.{Mind, mind_of, own_ram, parts_mind, program_state}
+use Rattle.gm_model.specs.View.{Mind, mind_of, own_ram, program_state}
 use Rattle.gm_laws.proofs.Commands.{commands_hold}
 use Rattle.gm_laws.proofs.EachKind.{passes_hold, face_mind, hart_shown}
 use Rattle.gm_laws.proofs.Modest.{rules_are_modest}
@@ -40,7 +40,7 @@ use Rattle.gm_laws.proofs.PortsHad.{port_had}
 use Rattle.gm_model.specs.Ports.{HasPort, ComesWithin}
 use Rattle.gm_words.specs.declared.answer.Answer.{Answer}
 use Rattle.gm_words.specs.declared.answer.Answer.TheVariants as answers
-use Rattle.gm_system.proofs.Bounded.{asked_port, offered_port, called_port, ports_stay, IsBounded, handle_bounded, wake_bounded, told_may, sender_there, offered_there, called_there, console-append}
+use Rattle.gm_system.proofs.Bounded.{asked_port, offered_port, called_port, ports_stay, wake_bounded, told_may, sender_there, offered_there, called_there, console-append}
 use Rattle.gm_system.proofs.Commands.{own_is, put_size as sized, put_steady, resumed_steady, input_steady, input_state, trace_steady}
 use Rattle.gm_system.proofs.EventEnds.{here}
 use Rattle.gm_system.proofs.Items.{active_below}
@@ -157,6 +157,8 @@ pub record IsOffered (d : Delivery) (table : List Slot) (i p : ℕ) (x : Packet)
   pub shown_port : HasPort (object_at d.sys e.part) e.port
   pub told_port : ComesWithin (object_at (deliver_wake d e.part (wakes.Offer (record { 0 = e.port }) x)).sys i)
       (told_wake (step_at d.sys e.part (wakes.Offer (record { 0 = e.port }) x)).answer p)
+
+-- An event, a line and a response come by no port, whatever the part: there `tt` says that they come within it.
 
 -- what is told comes by the port that offered
 told_within : (o : ObjState) (a : Answer) (p : ℕ) → HasPort o p → ComesWithin o (told_wake a p)

@@ -1,6 +1,6 @@
 -- The ports of a crossbar: which addresses go out at one, and which slot and class its layer has. Ports at which requests come in stand
 -- before those at which they go out. This project's own rule.
-use Rattle.std.specs.Prelude.{ℕ, zero, suc, ◌+◌, ◌-◌, ◌^◌, ◌==◌, ◌&&◌, ◌||◌, nat_le, nat_lt, Bool, true, false, not, if◌then◌else◌, List, [], ◌∷◌, ◌++◌, length, replicate, slice_index_or, Option, Some, None}
+use Rattle.std.specs.Prelude.{ℕ, suc, ◌+◌, ◌-◌, ◌^◌, ◌==◌, ◌&&◌, ◌||◌, nat_le, nat_lt, Bool, true, false, not, if◌then◌else◌, List, [], ◌∷◌, ◌++◌, length, replicate, slice_index_or, Option, Some, None}
 use Rattle.gm_words.specs.declared.port_use.PortUse.{PortUse}
 use Rattle.gm_words.specs.declared.port_use.PortUse.TheVariants as uses
 
