@@ -1,3 +1,4 @@
+pub mod Handles
 pub mod NotedBytes
 pub mod Serves
 pub mod Waiters
