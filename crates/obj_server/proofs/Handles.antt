@@ -36,10 +36,12 @@ pub serve_counted : (hs : List Handle) (object : ℕ) (k : Kind) (d : Device) �
 serve_counted hs object k d e h = rw h (subst (λ j. 0 < length (handles_from object 30 0 (slot_classes j))) e (counted object d))
 
 -- it is the slot's
-pub serve_first : (hs : List Handle) (object : ℕ) (k : Kind) (d : Device) (o : Handle) → device_kind d ≡ k → hs ≡ handles_from object 30 0 (slot_classes k)
-    → get_or hs 0 o ≡ record { owner = object; slot = 0 }
-serve_first hs object k d o e h = rw h (subst (λ j. get_or (handles_from object 30 0 (slot_classes j)) 0 o ≡ record { owner = object; slot = 0 }) e (first object d o))
+pub serve_first : (hs : List Handle) (object : ℕ) (k : Kind) (d : Device) (o : Handle) → device_kind d ≡ k
+    → hs ≡ handles_from object 30 0 (slot_classes k) → get_or hs 0 o ≡ record { owner = object; slot = 0 }
+serve_first hs object k d o e h =
+    rw h (subst (λ j. get_or (handles_from object 30 0 (slot_classes j)) 0 o ≡ record { owner = object; slot = 0 }) e (first object d o))
 
 -- and the queue gave it
-pub serve_given : (table : List Slot) (object : ℕ) (k : Kind) (d : Device) → device_kind d ≡ k → IsTrue (gave_from table object 0 (slot_classes k)) → IsTrue (gave table object 0 30)
+pub serve_given : (table : List Slot) (object : ℕ) (k : Kind) (d : Device) → device_kind d ≡ k
+    → IsTrue (gave_from table object 0 (slot_classes k)) → IsTrue (gave table object 0 30)
 serve_given table object k d e h = given table object d (subst (λ j. IsTrue (gave_from table object 0 (slot_classes j))) (sym e) h)

@@ -127,7 +127,7 @@ impl<D: Device> Configured<D> {
     // Wakes.
 
     /// Its step rule.
-    #[tactic(auto, using(obj_core::proofs::StepLemmas::gone_acts, obj_core::proofs::StepLemmas::hold_acts, obj_core::proofs::StepLemmas::hold_changes, obj_core::proofs::StepLemmas::again_changes))]
+    #[tactic(auto, using(crate::proofs::Steps::response_steps))]
     pub(crate) fn wake(
         &mut self,
         w: &Wake,

@@ -15,7 +15,7 @@ use obj_core::{Flow, Outbox};
 use std::alloc::Global;
 
 /// A server's one port.
-pub(crate) const PORT: PortNo = PortNo(0);
+const PORT: PortNo = PortNo(0);
 
 /// A server without its device: what it was configured with, its mode, whether it is draining, and its queue.
 #[derive(Drop)]
@@ -172,7 +172,7 @@ impl Server {
     }
 
     /// The first request is gone, and the next is served a latency later. Who waits for a place is called.
-    #[tactic(auto, using(obj_core::proofs::StepLemmas::gone_acts, obj_core::proofs::StepLemmas::opened_flow, obj_core::proofs::StepLemmas::opened_changes, obj_core::proofs::StepLemmas::opened_waiting, obj_core::proofs::StepLemmas::opened_acts))]
+    #[tactic(auto, using(crate::proofs::Steps::gone_steps))]
     pub(crate) fn remove_first(
         &mut self,
         now: Tick,
