@@ -1,9 +1,8 @@
 -- What serving a request asks for is little.
-use Rattle.std.proofs.Common.{◌≡◌, ℕ, ◌+◌, ◌-◌, ◌≤◌, ◌==◌, refl, sym, ap, ◌∙◌, arith, Bool, true, false, if◌then◌else◌, List, [], ◌∷◌, length, Option}
+use Rattle.std.proofs.Common.{◌≡◌, ℕ, ◌-◌, ◌≤◌, ◌==◌, sym, ap, ◌∙◌, arith, Bool, true, false, if◌then◌else◌, List, length, Option}
 use Rattle.rv_step.specs.FlatMem.{in_ram}
 use Rattle.rv_step.specs.Flat.{in_uart, in_exit, uart_base}
 use Rattle.gm_words.specs.Kind.{kind_of_own}
-use Rattle.pkt_pool.specs.Packet.{read_response}
 use Rattle.gm_words.specs.Platform.{own_classes, slot_classes}
 use Rattle.pkt_pool.specs.declared.cmd.Cmd.{Cmd}
 use Rattle.pkt_pool.specs.declared.cmd.Cmd.TheVariants as cmds
@@ -13,11 +12,11 @@ use Rattle.gm_words.specs.declared.own.Own.{Own}
 use Rattle.gm_words.specs.declared.own.Own.TheVariants as owns
 use Rattle.pkt_pool.specs.declared.packet.Packet.{Packet}
 use Rattle.gm_model.specs.ObjState.{Device, Memory, Uart, Exit, Timer, UartState, TimerState, device_kind}
-use Rattle.gm_model.specs.Serve.{Served, served}
+use Rattle.gm_model.specs.Serve.{Served}
 use Rattle.gm_model.specs.Memory.{serve_memory}
-use Rattle.gm_model.specs.Uart.{serve_uart, uart_read, uart_write, first_byte, line_status}
+use Rattle.gm_model.specs.Uart.{serve_uart}
 use Rattle.gm_model.specs.ExitDevice.{serve_exit}
-use Rattle.gm_model.specs.Timer.{TimerRegister, Msip, Compare, Clock, Nowhere, timer_register, serve_timer, timer_read, timer_write, compared}
+use Rattle.gm_model.specs.Timer.{TimerRegister, Msip, Compare, Clock, Nowhere, timer_register, serve_timer, timer_read, timer_write}
 use Rattle.gm_model.specs.Server.{serve}
 use Rattle.gm_model.specs.Stepped.{line_change}
 

@@ -1,5 +1,5 @@
 // A server that is configured.
-ghost use Rattle.std.specs.Prelude.{◌≡◌, ◌≤◌, IsTrue};
+ghost use Rattle.std.specs.Prelude.{◌≡◌, ◌<◌, ◌≤◌, [], length, IsTrue};
 ghost use Rattle.gm_words.specs.Allowed.{MayPass, MayCome};
 ghost use Rattle.gm_words.specs.Platform.{slot_classes};
 ghost use Rattle.gm_words.specs.declared.wake.Wake.TheVariants as wakes;
@@ -9,15 +9,15 @@ ghost use Rattle.gm_words.specs.Changes.{changed};
 ghost use Rattle.obj_core.specs.Handles.{handles_from};
 ghost use Rattle.obj_core.specs.Out.{HasRoom, extended};
 ghost use Rattle.obj_core.specs.Step.{Takes, Answers};
-ghost use Rattle.obj_server.specs.Server.{server_state, server_of};
+ghost use Rattle.obj_server.specs.Server.{server_state, server_of, after_step, gone_first};
 
 use crate::device::Device;
 use crate::own_event::OwnEvent;
-use crate::server::{PORT, Server};
+use crate::server::Server;
 use ev_queue::{EventHandle, EventQueue};
 use gc_base::limits::TOP;
 use gc_base::{SlotNo, Tick};
-use gm_model::{Answer, Entry, Packet, Wake};
+use gm_model::{Answer, Packet, Wake};
 use obj_core::Outbox;
 
 /// A server that is configured, with its device.
@@ -69,17 +69,10 @@ impl<D: Device> Configured<D> {
         }
     }
 
-    // Offers.
+    // Its queue.
 
     /// A request is offered: it is taken where there is a place for it.
-    #[tactic(auto, using(crate::proofs::Waiters::waiter_kept, crate::proofs::Waiters::waiter_joined, obj_core::proofs::StepLemmas::put_acts))]
-    pub(crate) fn offered(
-        &mut self,
-        p: &Packet,
-        now: Tick,
-        q: &mut EventQueue,
-        out: &mut Outbox,
-    ) -> Answer
+    fn offered(&mut self, p: &Packet, now: Tick, q: &mut EventQueue, out: &mut Outbox) -> Answer
         requires size { MayPass p.now }
         requires tick { now ≤ TOP }
         requires room { HasRoom out.old }
@@ -88,24 +81,29 @@ impl<D: Device> Configured<D> {
             Answers (server_step before out.old.next (wakes.Offer (record { 0 = 0 }) p.now) now)
             (server_of self.old.server d) (server_of self.new.server (D.shown self.new.device)) q.old q.new out.old out.new result }
     {
-        if self.server.queue.has_room() {
-            let at = self.server.served_at(now);
-            self.server.queue.put(p, at, &self.slots[SERVE], q);
-            Answer::Taken
-        } else {
-            self.server.waiter = true;
-            out.note(Entry::Refused {
-                object: self.server.object,
-            });
-            Answer::Refused
-        }
+        self.server.offered(p, now, &self.slots[SERVE], q, out)
+    }
+
+    /// The first request is gone, and the next is served a latency later. Who waits for a place is called.
+    fn remove_first(&mut self, now: Tick, q: &mut EventQueue, out: &mut Outbox)
+        requires tick { now ≤ TOP }
+        requires room { length out.old.items < 272 }
+        requires handles { IsTrue (gave_from q.old.table self.old.server.object.0 0 (slot_classes D.kind)) }
+        ensures server { self.new.server ≡ after_step self.old.server (gone_first self.old.server now) }
+        ensures device { self.new.device ≡ self.old.device }
+        ensures events { q.new ≡ record q.old {
+          pending = changed self.old.server.object.0 q.old.pending (gone_first self.old.server now).changes;
+        } }
+        ensures out { out.new ≡ extended out.old (gone_first self.old.server now).acts [] out.old.next }
+    {
+        self.server.remove_first(now, &self.slots[SERVE], q, out);
     }
 
     // Its event.
 
     /// The first request is served: its response is offered, or it is gone, where it has none.
-    #[tactic(auto, using(crate::proofs::Serves::few_acts, crate::proofs::Waiters::waiter_kept, obj_core::proofs::StepLemmas::ask_changes))]
-    pub(crate) fn serves(&mut self, now: Tick, q: &mut EventQueue, out: &mut Outbox)
+    #[tactic(auto, using(crate::proofs::Serves::few_acts))]
+    fn serves(&mut self, now: Tick, q: &mut EventQueue, out: &mut Outbox)
         requires tick { now ≤ TOP }
         requires room { HasRoom out.old }
         requires handles { IsTrue (gave_from q.old.table self.old.server.object.0 0 (slot_classes D.kind)) }
@@ -120,17 +118,16 @@ impl<D: Device> Configured<D> {
         let ends = p.is_write_back();
         self.serve(&mut p, now, q, out);
         if ends {
-            self.server.remove_first(now, &self.slots[SERVE], q, out);
+            self.remove_first(now, q, out);
         } else {
-            self.server.queue.replace_first(&p);
-            self.server.queue.ask(PORT, out);
+            self.server.answer(&p, out);
         }
     }
 
     // Wakes.
 
     /// Its step rule.
-    #[tactic(auto, using(crate::proofs::Waiters::waiter_kept, obj_core::proofs::StepLemmas::hold_acts, obj_core::proofs::StepLemmas::hold_changes, obj_core::proofs::StepLemmas::again_changes))]
+    #[tactic(auto, using(crate::proofs::Steps::response_steps))]
     pub(crate) fn wake(
         &mut self,
         w: &Wake,
@@ -149,9 +146,9 @@ impl<D: Device> Configured<D> {
         match w {
             Wake::Event { slot } => self.event(*slot, now, q, out),
             Wake::Offer { pkt, .. } => return self.offered(pkt, now, q, out),
-            Wake::Taken { .. } => self.server.remove_first(now, &self.slots[SERVE], q, out),
-            Wake::Refused { .. } => self.server.queue.hold(),
-            Wake::Retry { .. } => self.server.queue.ask_again(PORT, out),
+            Wake::Taken { .. } => self.remove_first(now, q, out),
+            Wake::Refused { .. } => self.server.hold(),
+            Wake::Retry { .. } => self.server.ask_again(out),
             Wake::Line { .. } | Wake::AtomicDone { .. } => {}
         }
         Answer::Nothing

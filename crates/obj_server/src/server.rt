@@ -2,19 +2,20 @@
 ghost use Rattle.std.specs.Prelude.{◌≡◌, ◌+◌, ◌<◌, ◌≤◌, ◌==◌, ◌&&◌, not, [], length, IsTrue, IfOk, true, false};
 ghost use Rattle.ev_queue.specs.SlotTable.{gave};
 ghost use Rattle.gc_base.specs.declared.limits.TheConstants.{LATENCY_MAX};
+ghost use Rattle.gm_words.specs.Allowed.{MayPass};
 ghost use Rattle.gm_words.specs.Changes.{changed};
-ghost use Rattle.gm_model.specs.Flows.{is_some_port};
-ghost use Rattle.obj_core.specs.Out.{extended};
+ghost use Rattle.gm_model.specs.Flows.{answer_of, refusal_of};
+ghost use Rattle.obj_core.specs.Out.{HasRoom, extended};
 
 use ev_queue::{EventHandle, EventQueue};
 use gc_base::limits::TOP;
 use gc_base::{NoMemory, ObjId, PortNo, Tick};
-use gm_model::{Act, Params};
+use gm_model::{Act, Answer, Entry, Packet, Params};
 use obj_core::{Flow, Outbox};
 use std::alloc::Global;
 
 /// A server's one port.
-pub(crate) const PORT: PortNo = PortNo(0);
+const PORT: PortNo = PortNo(0);
 
 /// A server without its device: what it was configured with, its mode, whether it is draining, and its queue.
 #[derive(Drop)]
@@ -36,7 +37,7 @@ pub(crate) struct Server {
 }
 
 impl Server {
-    ghost use Rattle.obj_server.specs.Server.{server_of, gone_first, called};
+    ghost use Rattle.obj_server.specs.Server.{server_of, after_step, has_place, offered_to, gone_first, called, answered_by, held, asked_again};
     ghost use Rattle.gm_model.specs.ObjState.{Device};
     ghost use Rattle.gm_model.specs.Server.{server_start};
 
@@ -109,8 +110,69 @@ impl Server {
 
     // Its queue.
 
+    /// A request is offered: it is taken where there is a place for it, and is served a latency later, if it is the first.
+    /// Where there is none, who offers it waits.
+    #[tactic(auto, using(crate::proofs::Waiters::waiter_joined))]
+    pub(crate) fn offered(
+        &mut self,
+        p: &Packet,
+        now: Tick,
+        event: &EventHandle<30>,
+        q: &mut EventQueue,
+        out: &mut Outbox,
+    ) -> Answer
+        requires size { MayPass p.now }
+        requires tick { now ≤ TOP }
+        requires room { HasRoom out.old }
+        requires owner { event.now.owner ≡ self.old.object.0 }
+        requires slot { event.now.slot ≡ 0 }
+        requires known { IsTrue (gave q.old.table self.old.object.0 0 30) }
+        ensures server { self.new ≡ after_step self.old (offered_to self.old p.now now) }
+        ensures events { q.new ≡ record q.old { pending = changed self.old.object.0 q.old.pending (offered_to self.old p.now now).changes } }
+        ensures out { out.new ≡ extended out.old (offered_to self.old p.now now).acts
+            (refusal_of self.old.object.0 (has_place self.old)) out.old.next }
+        ensures answer { result ≡ answer_of (has_place self.old) }
+    {
+        if self.queue.has_room() {
+            self.take(p, now, event, q);
+            Answer::Taken
+        } else {
+            self.refuse(out);
+            Answer::Refused
+        }
+    }
+
+    /// Takes a request into its queue.
+    #[tactic(auto, using(crate::proofs::Waiters::waiter_kept))]
+    fn take(&mut self, p: &Packet, now: Tick, event: &EventHandle<30>, q: &mut EventQueue)
+        requires size { MayPass p.now }
+        requires tick { now ≤ TOP }
+        requires place { IsTrue (has_place self.old) }
+        requires owner { event.now.owner ≡ self.old.object.0 }
+        requires slot { event.now.slot ≡ 0 }
+        requires known { IsTrue (gave q.old.table self.old.object.0 0 30) }
+        ensures server { self.new ≡ after_step self.old (offered_to self.old p.now now) }
+        ensures events { q.new ≡ record q.old { pending = changed self.old.object.0 q.old.pending (offered_to self.old p.now now).changes } }
+        ensures acts { (offered_to self.old p.now now).acts ≡ [] }
+    {
+        let at = self.served_at(now);
+        self.queue.put(p, at, event, q);
+    }
+
+    /// Notes that it refuses a request: who offered it waits.
+    fn refuse(&mut self, out: &mut Outbox)
+        requires { HasRoom out.old }
+        ensures server { self.new ≡ record self.old { waiter = true } }
+        ensures out { out.new ≡ extended out.old [] (refusal_of self.old.object.0 false) out.old.next }
+    {
+        self.waiter = true;
+        out.note(Entry::Refused {
+            object: self.object,
+        });
+    }
+
     /// The first request is gone, and the next is served a latency later. Who waits for a place is called.
-    #[tactic(auto, using(obj_core::proofs::StepLemmas::gone_acts, obj_core::proofs::StepLemmas::opened_flow, obj_core::proofs::StepLemmas::opened_changes, obj_core::proofs::StepLemmas::opened_waiting, obj_core::proofs::StepLemmas::opened_acts))]
+    #[tactic(auto, using(crate::proofs::Steps::gone_steps))]
     pub(crate) fn remove_first(
         &mut self,
         now: Tick,
@@ -123,26 +185,56 @@ impl Server {
         requires owner { event.now.owner ≡ self.old.object.0 }
         requires slot { event.now.slot ≡ 0 }
         requires known { IsTrue (gave q.old.table self.old.object.0 0 30) }
-        ensures server { self.new ≡ record self.old {
-          queue = record self.old.queue { flow = (gone_first self.old now).lane.flow };
-          waiter = is_some_port (gone_first self.old now).lane.waiting;
-        } }
+        ensures server { self.new ≡ after_step self.old (gone_first self.old now) }
         ensures events { q.new ≡ record q.old { pending = changed self.old.object.0 q.old.pending (gone_first self.old now).changes } }
         ensures out { out.new ≡ extended out.old (gone_first self.old now).acts [] out.old.next }
     {
-        self.queue.drop_first(self.served_at(now), event, q);
+        let next = self.served_at(now);
+        self.queue.drop_first(next, event, q);
         self.call_waiter(out);
     }
 
     /// Calls who waits, where there is a place.
     fn call_waiter(&mut self, out: &mut Outbox)
         requires { length out.old.items < 272 }
-        ensures server { self.new ≡ record self.old { waiter = is_some_port (called self.old).lane.waiting } }
+        ensures server { self.new ≡ after_step self.old (called self.old) }
         ensures out { out.new ≡ extended out.old (called self.old).acts [] out.old.next }
     {
         if self.waiter && self.queue.has_room() {
             self.waiter = false;
             out.push(Act::CallRetry { port: PORT });
         }
+    }
+
+    // Responses.
+
+    /// The response of the first request stands in its place, and is offered.
+    #[tactic(auto, using(crate::proofs::Waiters::waiter_kept))]
+    pub(crate) fn answer(&mut self, p: &Packet, out: &mut Outbox)
+        requires size { MayPass p.now }
+        requires room { length out.old.items < 272 }
+        ensures server { self.new ≡ after_step self.old (answered_by self.old p.now) }
+        ensures out { out.new ≡ extended out.old (answered_by self.old p.now).acts [] out.old.next }
+    {
+        self.queue.replace_first(p);
+        self.queue.ask(PORT, out);
+    }
+
+    /// The response was refused, and waits.
+    #[tactic(auto, using(crate::proofs::Waiters::waiter_kept))]
+    pub(crate) fn hold(&mut self)
+        ensures { self.new ≡ after_step self.old (held self.old) }
+    {
+        self.queue.hold();
+    }
+
+    /// A response that waits is offered again.
+    #[tactic(auto, using(crate::proofs::Waiters::waiter_kept))]
+    pub(crate) fn ask_again(&mut self, out: &mut Outbox)
+        requires { length out.old.items < 272 }
+        ensures server { self.new ≡ after_step self.old (asked_again self.old) }
+        ensures out { out.new ≡ extended out.old (asked_again self.old).acts [] out.old.next }
+    {
+        self.queue.ask_again(PORT, out);
     }
 }
