@@ -23,3 +23,4 @@ pub mod TimingModest
 pub mod EachKind
 pub mod Modest
 pub mod Commands
+pub mod PortsHad

@@ -36,7 +36,7 @@ use Rattle.gm_laws.proofs.Counts.{only_self}
 use Rattle.gm_laws.proofs.EachKind.{passes_hold}
 use Rattle.gm_laws.proofs.Modest.{rules_are_modest}
 use Rattle.gm_system.specs.Machine.{HasSoundParts, AreItemsFit, items_speech, speech_left, most_of, AreBetween}
-use Rattle.gm_system.specs.System.{IsSound}
+use Rattle.gm_system.specs.System.{IsSound, faces}
 use Rattle.gm_system.proofs.Atomics.{atomic_served}
 use Rattle.gm_system.proofs.Items.{active_below}
 use Rattle.gm_system.proofs.Systems.{part_there}
@@ -272,6 +272,32 @@ module _ (ram : ℕ) where
       let back : peer_in s.wires q.part q.port ≡ record { part = i; port = p } = h.net.wired.both i p in
       let calls = ap (λ (t : End). called_by t.part t.port (Sent i (acts.CallRetry (record { 0 = p })) ∷ rest)) back in
       part_there s q.part q.port ((h.net.net.faces q.part).within q.port (omega (arith, h.net.net.waits q.part q.port, calls, only_self i (only p p 1), only_self p 1)))
+
+  -- and have the ports
+  pub asked_port : (s : Sys) (rest : List Item) (i p : ℕ) (x : Packet) → IsSound ram s (Sent i (acts.Offer (record { 0 = p }) x) ∷ rest) → p < (faces s i).ports
+  asked_port s rest i p x h = (h.net.net.faces i).within p (omega (arith, h.net.net.asked i p, only_self i (only p p 1), only_self p 1))
+
+  pub offered_port : (s : Sys) (rest : List Item) (i p : ℕ) (x : Packet) → IsSound ram s (Sent i (acts.Offer (record { 0 = p }) x) ∷ rest)
+      → (peer_in s.wires i p).port < (faces s (peer_in s.wires i p).part).ports
+  offered_port s rest i p x h = h.net.wired.real i p (asked_port s rest i p x h)
+
+  pub called_port : (s : Sys) (rest : List Item) (i p : ℕ) → IsSound ram s (Sent i (acts.CallRetry (record { 0 = p })) ∷ rest)
+      → (peer_in s.wires i p).port < (faces s (peer_in s.wires i p).part).ports
+  called_port s rest i p h =
+      let q : End = peer_in s.wires i p in
+      let back : peer_in s.wires q.part q.port ≡ record { part = i; port = p } = h.net.wired.both i p in
+      let calls = ap (λ (t : End). called_by t.part t.port (Sent i (acts.CallRetry (record { 0 = p })) ∷ rest)) back in
+      (h.net.net.faces q.part).within q.port (omega (arith, h.net.net.waits q.part q.port, calls, only_self i (only p p 1), only_self p 1))
+
+-- a part's ports stay, whichever part is woken
+pub ports_stay : (s : Sys) (table : List Slot) (k i : ℕ) (w : Wake) → k < length s.objects → MayCome w → HasSoundParts s table → (faces (woken s k w) i).ports ≡ (faces s i).ports
+ports_stay s table k i w here may h = by (cases_eq i k) where
+  by : (i ≡ k) ⊎ (i ≡ k → ⊥) → (faces (woken s k w) i).ports ≡ (faces s i).ports
+  by (inl e) =
+      let P : ℕ → Type 0 = λ j. (faces (woken s k w) j).ports ≡ (faces s j).ports in
+      subst P (sym e) (ap (λ o. (face_of o).ports) (get_or-set_same s.objects k (step_at s k w).state (Blank kinds.AtomicCpu) here)
+      ∙ (rules_are_modest.wake (object_at s k) s.next w s.tick (h.within k) may).ports)
+  by (inr n) = ap (λ o. (face_of o).ports) (get_or-set_other s.objects k i (step_at s k w).state (Blank kinds.AtomicCpu) n)
 
 -- each item
 module _ (ram : ℕ) (table : List Slot) where

@@ -241,7 +241,7 @@ module _ (s : Sys) (table : List Slot) (b : ℕ) (h : IsSteady s table) where
 module _ (s : Sys) (table : List Slot) (on : Bool) (h : IsSteady s table) where
   trace_alike : IsAlike h.ram s (record s { trace = on })
   trace_alike = record {
-    wiring = record { wires = refl; router = refl };
+    wiring = record { wires = refl; ways = refl; routes = refl };
     count = refl;
     parts = λ k. record { face = refl; ok = λ o. o; within = λ w. w; object = refl; slots = refl };
     due = h.sound.net.due;

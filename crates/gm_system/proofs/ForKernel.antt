@@ -24,7 +24,7 @@ use Rattle.cfg_tree.specs.declared.config.Config.{Config}
 use Rattle.gm_model.specs.Deliver.{Item, Sent, Done, Delivery, deliver_wake, deliver_passed, deliver_first, deliver_atomic, deliver, done_at, pass_way, passes_max, told_wake, way_latency}
 use Rattle.gm_model.specs.Fire.{taken_out, event_begun, fire, timed_run}
 use Rattle.gm_model.specs.ObjState.{ObjState, object_of, slots_of}
-use Rattle.gm_model.specs.Sys.{Sys, object_at, peer_in, step_at, pass_at, active_cpu}
+use Rattle.gm_model.specs.Sys.{Sys, object_at, peer_in, step_at, pass_at, woken, active_cpu}
 use Rattle.gm_model.specs.Picks.{Input, picked}
 use Rattle.gm_model.specs.View.{Mind, mind_of, own_ram, parts_mind, program_state}
 use Rattle.gm_laws.proofs.Commands.{commands_hold}
@@ -36,7 +36,11 @@ use Rattle.gm_system.specs.Runs.{Replays, IsRunReplayed}
 use Rattle.gm_system.specs.System.{IsSound, IsWiredAlike, faces}
 use Rattle.gm_system.specs.Ways.{HasWay, GoesFrom}
 use Rattle.gm_system.proofs.Atomics.{stays_same, way_there}
-use Rattle.gm_system.proofs.Bounded.{IsBounded, handle_bounded, wake_bounded, told_may, sender_there, offered_there, called_there, console-append}
+use Rattle.gm_laws.proofs.PortsHad.{port_had}
+use Rattle.gm_model.specs.Ports.{HasPort, ComesWithin}
+use Rattle.gm_words.specs.declared.answer.Answer.{Answer}
+use Rattle.gm_words.specs.declared.answer.Answer.TheVariants as answers
+use Rattle.gm_system.proofs.Bounded.{asked_port, offered_port, called_port, ports_stay, IsBounded, handle_bounded, wake_bounded, told_may, sender_there, offered_there, called_there, console-append}
 use Rattle.gm_system.proofs.Commands.{own_is, put_size as sized, put_steady, resumed_steady, input_steady, input_state, trace_steady}
 use Rattle.gm_system.proofs.EventEnds.{here}
 use Rattle.gm_system.proofs.Items.{active_below}
@@ -150,6 +154,15 @@ pub record IsOffered (d : Delivery) (table : List Slot) (i p : ℕ) (x : Packet)
   pub numbers : (deliver_wake d e.part (wakes.Offer (record { 0 = e.port }) x)).sys.next ≤ d.sys.next + 1
   pub objects : length (deliver_wake d e.part (wakes.Offer (record { 0 = e.port }) x)).sys.objects ≡ length d.sys.objects
   pub told : MayCome (told_wake (step_at d.sys e.part (wakes.Offer (record { 0 = e.port }) x)).answer p)
+  pub shown_port : HasPort (object_at d.sys e.part) e.port
+  pub told_port : ComesWithin (object_at (deliver_wake d e.part (wakes.Offer (record { 0 = e.port }) x)).sys i)
+      (told_wake (step_at d.sys e.part (wakes.Offer (record { 0 = e.port }) x)).answer p)
+
+-- what is told comes by the port that offered
+told_within : (o : ObjState) (a : Answer) (p : ℕ) → HasPort o p → ComesWithin o (told_wake a p)
+told_within o answers.Taken p h = h
+told_within o answers.Refused p h = h
+told_within o answers.Nothing p h = h
 
 pub offer_stands : (d : Delivery) (table : List Slot) (i p : ℕ) (x : Packet) (rest : List Item) → IsDeliverySound d table → d.items ≡ Sent i (acts.Offer (record { 0 = p }) x) ∷ rest
     → IsOffered (record d { items = rest }) table i p x (peer_in d.sys.wires i p)
@@ -167,11 +180,22 @@ offer_stands d table i p x rest h e =
       numbers = b.numbers;
       objects = b.objects;
       told = told_may (step_at d.sys q.part (wakes.Offer (record { 0 = q.port }) x)).answer p;
+      shown_port = port_had (object_at d.sys q.part) q.port (h.parts.within q.part) (offered_port h.ram d.sys rest i p x sound);
+      told_port = told_within (object_at (woken d.sys q.part (wakes.Offer (record { 0 = q.port }) x)) i) (step_at d.sys q.part (wakes.Offer (record { 0 = q.port }) x)).answer p
+          (port_had (object_at (woken d.sys q.part (wakes.Offer (record { 0 = q.port }) x)) i) p (b.parts.within i)
+          (omega (arith, asked_port h.ram d.sys rest i p x sound, ports_stay d.sys table q.part i (wakes.Offer (record { 0 = q.port }) x) there fit.0 h.parts)));
     }
 
 pub call_there : (d : Delivery) (table : List Slot) (i p : ℕ) (rest : List Item) → IsDeliverySound d table → d.items ≡ Sent i (acts.CallRetry (record { 0 = p })) ∷ rest
     → (peer_in d.sys.wires i p).part < length d.sys.objects
 call_there d table i p rest h e = called_there h.ram d.sys rest i p (first_stands d table h (Sent i (acts.CallRetry (record { 0 = p }))) rest e)
+
+-- and it has the port
+pub call_port : (d : Delivery) (table : List Slot) (i p : ℕ) (rest : List Item) → IsDeliverySound d table → d.items ≡ Sent i (acts.CallRetry (record { 0 = p })) ∷ rest
+    → HasPort (object_at d.sys (peer_in d.sys.wires i p).part) (peer_in d.sys.wires i p).port
+call_port d table i p rest h e =
+    let q : End = peer_in d.sys.wires i p in
+    port_had (object_at d.sys q.part) q.port (h.parts.within q.part) (called_port h.ram d.sys rest i p (first_stands d table h (Sent i (acts.CallRetry (record { 0 = p }))) rest e))
 
 pub first_stays : (d : Delivery) (table : List Slot) → IsDeliverySound d table → IsDeliverySound (deliver_first d d.items) table
 first_stays d table h = first_sound d table h

@@ -33,12 +33,12 @@ put_sound s s' table table' address bytes h l m e t =
     let R : ℕ → Type 0 = λ n. s' ≡ with_raw n bytes s in
     subst P (sym (subst R back e)) (subst Q (sym t) (raw_sound s table address bytes h m))
 
-pub built_sound : (c : Config) (s : Sys) (table : List Slot) → IsValidConfig c → c.system_model ≡ false → s ≡ start_state c 0x80000000 []
+pub built_sound : (c : Config) (s : Sys) (table : List Slot) → IsValidConfig c → s ≡ start_state c 0x80000000 []
     → table ≡ given_table 0 (platform c) → IsMachineSound s table
-built_sound c s table v m e t =
+built_sound c s table v e t =
     let P : Sys → Type 0 = λ x. IsMachineSound x table in
     let Q : List Slot → Type 0 = λ x. IsMachineSound (start_state c 0x80000000 []) x in
-    subst P (sym e) (subst Q (sym t) (started_sound c 0x80000000 [] v m (omega arith)))
+    subst P (sym e) (subst Q (sym t) (started_sound c 0x80000000 [] v (omega arith)))
 
 pub resume_sound : (s s' : Sys) (table table' : List Slot) → IsMachineSound s table → s' ≡ commanded (λ o. resume_step o s.tick) s → table' ≡ table
     → IsMachineSound (record s' { draining = false }) table'
@@ -141,18 +141,19 @@ handles_still f s table table' xs i b h t here is rest = by_place (cases_lt i (l
 
 -- two machines that agree in each field
 pub sys_same : (s t : Sys) → s.tick ≡ t.tick → s.pending ≡ t.pending → s.objects ≡ t.objects → s.next ≡ t.next → s.counts ≡ t.counts → s.rebased ≡ t.rebased → s.trace ≡ t.trace
-    → s.draining ≡ t.draining → s.wires ≡ t.wires → s.router ≡ t.router → s ≡ t
-sys_same s t a b c d e f g h i j =
+    → s.draining ≡ t.draining → s.wires ≡ t.wires → s.ways ≡ t.ways → s.routes ≡ t.routes → s ≡ t
+sys_same s t a b c d e f g h i j k =
     ap (λ x. record s { tick = x }) a
     ∙ (ap (λ x. record s { tick = t.tick; pending = x }) b
     ∙ (ap (λ x. record s { tick = t.tick; pending = t.pending; objects = x }) c
     ∙ (ap (λ x. record s { tick = t.tick; pending = t.pending; objects = t.objects; next = x }) d
     ∙ (ap (λ x. record s { tick = t.tick; pending = t.pending; objects = t.objects; next = t.next; counts = x }) e
     ∙ (ap (λ x. record s { tick = t.tick; pending = t.pending; objects = t.objects; next = t.next; counts = t.counts; rebased = x }) f
-    ∙ (ap (λ x. record t { trace = x; draining = s.draining; wires = s.wires; router = s.router }) g
-    ∙ (ap (λ x. record t { draining = x; wires = s.wires; router = s.router }) h
-    ∙ (ap (λ x. record t { wires = x; router = s.router }) i
-    ∙ ap (λ x. record t { router = x }) j))))))))
+    ∙ (ap (λ x. record t { trace = x; draining = s.draining; wires = s.wires; ways = s.ways; routes = s.routes }) g
+    ∙ (ap (λ x. record t { draining = x; wires = s.wires; ways = s.ways; routes = s.routes }) h
+    ∙ (ap (λ x. record t { wires = x; ways = s.ways; routes = s.routes }) i
+    ∙ (ap (λ x. record t { ways = x; routes = s.routes }) j
+    ∙ ap (λ x. record t { routes = x }) k)))))))))
 
 -- once all parts were commanded, these are their states, and these events are pending
 pub all_commanded : {X : Type 0} (f : X → ObjState) (k : ObjState → Commanded) (xs : List X) (i : ℕ) (all : List ObjState) → length xs ≤ i

@@ -3,12 +3,11 @@ use Rattle.std.proofs.Common.{◌≡◌, ℕ, suc, zero, ◌+◌, ◌-◌, ◌<�
 use Rattle.std.proofs.lemmas.Bool.{cases_lt, eqb-true}
 use Rattle.std.proofs.lemmas.List.{length-append}
 use Rattle.ev_queue.specs.declared.slot.Slot.{Slot}
-use Rattle.gm_words.specs.Routes.{destination}
-use Rattle.gm_model.specs.Sys.{Sys, step_at}
+use Rattle.gm_model.specs.Sys.{Sys, peer_in, step_at}
 use Rattle.gm_words.specs.Platform.{End}
 use Rattle.gm_words.specs.declared.answer.Answer.{Answer}
 use Rattle.gm_words.specs.declared.wake.Wake.{Wake}
-use Rattle.gm_model.specs.Deliver.{Item, Sent, Done, Delivery, handle, deliver, deliver_first, deliver_wake, deliver_offer, done_at, deliver_atomic, told_wake}
+use Rattle.gm_model.specs.Deliver.{Item, Sent, Done, Delivery, handle, deliver, deliver_first, deliver_wake, deliver_offer, done_at, deliver_atomic, passes_max, told_wake}
 use Rattle.gc_base.specs.declared.ids.ObjId.{ObjId}
 use Rattle.gc_base.specs.declared.ids.PortNo.{PortNo}
 use Rattle.gm_words.specs.declared.act.Act.{Act}
@@ -119,7 +118,7 @@ told_later d e i latency p f = record { count = 0; enough = omega arith; deliver
 
 -- the first item is a packet, which was passed on: `after` is the machine before its sender is told
 module _ (d : Delivery) (table : List Slot) (i : ℕ) (port : PortNo) (p : Packet) (is : List Item) (e : d.items ≡ Sent i (acts.Atomic port p) ∷ is) (h : IsUnderWay d table)
-    (after : Delivery) (q : Packet) (latency : ℕ) (m : done_at after i q latency ≡ deliver_atomic (record d { items = is }) i p (destination d.sys.routes p.addr)) where
+    (after : Delivery) (q : Packet) (latency : ℕ) (m : done_at after i q latency ≡ deliver_atomic passes_max (record d { items = is }) i (peer_in d.sys.ways i port.0).part p 0) where
   passed_first : done_at after i q latency ≡ deliver_first d d.items
   passed_first = m ∙ sym (ap (λ xs. deliver_first d xs) e)
 

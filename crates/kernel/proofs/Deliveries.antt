@@ -2,11 +2,12 @@
 use Rattle.std.proofs.Common.{◌≡◌, ℕ, suc, zero, ◌+◌, ◌≤◌, length, refl, sym, ◌∙◌, ap, subst, arith, Bool, List, [], ◌∷◌, ◌++◌, Option, Some, None}
 use Rattle.std.proofs.lemmas.List.{length-append}
 use Rattle.gm_words.specs.Counts.{Counts}
-use Rattle.gm_words.specs.Routes.{destination}
 use Rattle.gm_words.specs.Platform.{End}
 use Rattle.gm_model.specs.Sys.{Sys, active_cpu, pass_at, peer_in, step_at}
-use Rattle.gm_model.specs.Deliver.{Item, Sent, Done, Delivery, handle, deliver, deliver_first, deliver_wake, deliver_line, deliver_atomic, told_wake, sent_by, way_latency}
-use Rattle.pkt_pool.specs.Packet.{fault_response}
+use Rattle.gm_model.specs.Deliver.{Item, Sent, Done, Delivery, handle, deliver, deliver_first, deliver_wake, deliver_line, deliver_passed, deliver_atomic, pass_way, passes_max, told_wake, sent_by}
+use Rattle.pkt_pool.specs.declared.packet.Packet.{Packet}
+use Rattle.gm_words.specs.declared.way.Way.{Way}
+use Rattle.gm_words.specs.declared.way.Way.TheVariants as ways
 use Rattle.gm_words.specs.declared.act.Act.TheVariants as acts
 use Rattle.gm_words.specs.declared.wake.Wake.{Wake}
 use Rattle.gm_words.specs.declared.wake.Wake.TheVariants as wakes
@@ -15,6 +16,17 @@ use Rattle.gm_words.specs.declared.wake.Wake.TheVariants as wakes
 abbrev still : Sys → Counts × Bool
 still s = (s.counts, s.trace)
 
+passed_kept : (n : ℕ) (d : Delivery) (j k : ℕ) (p : Packet) (before : ℕ) → still (deliver_atomic n d j k p before).sys ≡ still d.sys
+unfolding deliver_atomic
+passed_kept zero d j k p before = refl
+passed_kept (suc n) d j k p before = by_way (λ port total. passed_kept n (deliver_passed d k p) j (peer_in d.sys.wires k port).part (pass_at d.sys k p).packet total) (pass_at d.sys k p).way where
+  on : ℕ → ℕ → Delivery
+  on port total = deliver_atomic n (deliver_passed d k p) j (peer_in d.sys.wires k port).part (pass_at d.sys k p).packet total
+
+  by_way : ((port total : ℕ) → still (on port total).sys ≡ still d.sys) → (w : Way) → still (pass_way on (deliver_passed d k p) j (pass_at d.sys k p).packet before w).sys ≡ still d.sys
+  by_way more (ways.Pass port latency) = more port.0 (before + latency)
+  by_way more (ways.Done latency) = refl
+
 kept : (d : Delivery) (i : Item) → still (handle d i).sys ≡ still d.sys
 kept d (Sent j (acts.Offer port p)) = refl
 kept d (Sent j (acts.CallRetry port)) = refl
@@ -22,10 +34,7 @@ kept d (Sent j (acts.SetLine bit level)) = by_cpu (active_cpu d.sys.objects) whe
   by_cpu : (o : Option ℕ) → still (deliver_line d (wakes.Line bit level) o).sys ≡ still d.sys
   by_cpu None = refl
   by_cpu (Some i) = refl
-kept d (Sent j (acts.Atomic port p)) = by_route (destination d.sys.routes p.addr) where
-  by_route : (o : Option ℕ) → still (deliver_atomic d j p o).sys ≡ still d.sys
-  by_route None = refl
-  by_route (Some i) = refl
+kept d (Sent j (acts.Atomic port p)) = passed_kept passes_max d j (peer_in d.sys.ways j port.0).part p 0
 kept d (Done j p latency) = refl
 
 first_kept : (d : Delivery) (is : List Item) → still (deliver_first d is).sys ≡ still d.sys
@@ -50,6 +59,23 @@ deliver_trace n d = ap (λ (k : Counts × Bool). k.1) (deliver_kept n d)
 wake_least : (d : Delivery) (i : ℕ) (w : Wake) → length d.items ≤ length (deliver_wake d i w).items
 wake_least d i w = omega (arith, length-append d.items (sent_by i (step_at d.sys i w).acts))
 
+passed_least : (n : ℕ) (d : Delivery) (j k : ℕ) (p : Packet) (before : ℕ) → length d.items ≤ length (deliver_atomic n d j k p before).items
+unfolding deliver_atomic
+passed_least zero d j k p before = omega (arith, length-append d.items (Done j p before ∷ []))
+passed_least (suc n) d j k p before = by_way (λ port total. passed_least n (deliver_passed d k p) j (peer_in d.sys.wires k port).part (pass_at d.sys k p).packet total) (pass_at d.sys k p).way where
+  e : Delivery
+  e = deliver_passed d k p
+
+  more : length d.items ≤ length e.items
+  more = omega (arith, length-append d.items (sent_by k (pass_at d.sys k p).acts))
+
+  on : ℕ → ℕ → Delivery
+  on port total = deliver_atomic n e j (peer_in d.sys.wires k port).part (pass_at d.sys k p).packet total
+
+  by_way : ((port total : ℕ) → length e.items ≤ length (on port total).items) → (w : Way) → length d.items ≤ length (pass_way on e j (pass_at d.sys k p).packet before w).items
+  by_way goes (ways.Pass port latency) = omega (arith, more, goes port.0 (before + latency))
+  by_way goes (ways.Done latency) = omega (arith, more, length-append e.items (Done j (pass_at d.sys k p).packet (before + latency) ∷ []))
+
 handle_least : (d : Delivery) (i : Item) → length d.items ≤ length (handle d i).items
 handle_least d (Sent j (acts.Offer port p)) =
     let q : End = peer_in d.sys.wires j port.0 in
@@ -60,15 +86,7 @@ handle_least d (Sent j (acts.SetLine bit level)) = by_cpu (active_cpu d.sys.obje
   by_cpu : (o : Option ℕ) → length d.items ≤ length (deliver_line d (wakes.Line bit level) o).items
   by_cpu None = omega arith
   by_cpu (Some i) = wake_least d i (wakes.Line bit level)
-handle_least d (Sent j (acts.Atomic port p)) = by_route (destination d.sys.routes p.addr) where
-  by_route : (o : Option ℕ) → length d.items ≤ length (deliver_atomic d j p o).items
-  by_route None = omega (arith, length-append d.items (Done j (fault_response p p.cmd) d.sys.router.latency ∷ []))
-  by_route (Some i) =
-      omega (
-        arith,
-        length-append (d.items ++ sent_by i (pass_at d.sys i p).acts) (Done j (pass_at d.sys i p).packet (d.sys.router.latency + way_latency (pass_at d.sys i p).way) ∷ []),
-        length-append d.items (sent_by i (pass_at d.sys i p).acts),
-      )
+handle_least d (Sent j (acts.Atomic port p)) = passed_least passes_max d j (peer_in d.sys.ways j port.0).part p 0
 handle_least d (Done j p latency) = wake_least d j (wakes.AtomicDone p latency)
 
 first_least : (d : Delivery) (is : List Item) → d.items ≡ is → length d.items ≤ length (deliver_first d is).items + 1

@@ -10,7 +10,7 @@ use Rattle.gm_words.specs.Kind.{kind_of_own}
 use Rattle.gm_words.specs.Platform.{Part, platform}
 use Rattle.gm_words.specs.declared.kind.Kind.{Kind}
 use Rattle.gm_words.specs.declared.kind.Kind.TheVariants as kinds
-use Rattle.gm_model.specs.ObjState.{ObjState, Blank, AtomicCpu, Server, Device, Memory, Uart, Exit, Timer, kind_of, IsBlank}
+use Rattle.gm_model.specs.ObjState.{ObjState, Blank, AtomicCpu, TimingCpu, Xbar, Server, Device, Memory, Uart, Exit, Timer, kind_of, IsBlank}
 use Rattle.gm_model.specs.Start.{params_of, start_state, built_object, built_objects, cpu_started, ram_loaded}
 use Rattle.rv_step.specs.FlatMem.{ram_base}
 use Rattle.kernel.specs.Build.{rank_of, parts_of, rows_of, all_kinds, is_lacking, first_lacking, lacking, AreBlank, AreDrawn, AreEnough, IsPart, configured, all_configured, standing}
@@ -89,10 +89,6 @@ not_less n m h = grind (arith, nat_tests, h)
 
 pub enough_parts : (c : Config) (ss : List ObjState) → lacking c ss ≡ None → AreEnough ss (platform c)
 enough_parts c ss h k = not_less (parts_of k ss) (rows_of k (platform c)) (or_false _ _ (of_each c ss h k)).1
-
--- a machine that can be built is one in atomic mode
-pub built_mode : (c : Config) (ss : List ObjState) → lacking c ss ≡ None → c.system_model ≡ false
-built_mode c ss h = (or_false _ _ (of_each c ss h kinds.TimingCpu)).0
 
 -- a part of a list, and the others
 abbrev one_if : Bool → ℕ
@@ -255,16 +251,21 @@ boxes_length f c ps xs n h = let k : length (map f xs) ≡ length ps = done_leng
 -- what a row's part is configured with is allowed
 pub row_allowed : (c : Config) (n : ℕ) (p : Part) → IsValidConfig c → n < length (platform c) → p ≡ get_or (platform c) n p → IsAllowed (params_of c n p.own)
 row_allowed c zero p v l e = rw e (record { line = v.line; least = v.ram_least; most = v.ram_most; pages = v.ram_pages; own = v.cpu_period })
-row_allowed c (suc zero) p v l e = rw e (record { line = v.line; least = v.ram_least; most = v.ram_most; pages = v.ram_pages; own = v.exit_latency })
-row_allowed c (suc (suc zero)) p v l e = rw e (record { line = v.line; least = v.ram_least; most = v.ram_most; pages = v.ram_pages; own = (v.mem_latency, v.mem_queue) })
-row_allowed c (suc (suc (suc zero))) p v l e = rw e (record { line = v.line; least = v.ram_least; most = v.ram_most; pages = v.ram_pages; own = (v.timer_latency, v.timer_period) })
-row_allowed c (suc (suc (suc (suc zero)))) p v l e = rw e (record { line = v.line; least = v.ram_least; most = v.ram_most; pages = v.ram_pages; own = (v.uart_latency, v.uart_chartime) })
-row_allowed c (suc (suc (suc (suc (suc n))))) p v l e = absurd (omega (arith, l))
+row_allowed c (suc zero) p v l e = rw e (record { line = v.line; least = v.ram_least; most = v.ram_most; pages = v.ram_pages; own = (v.corebus_latency, refl) })
+row_allowed c (suc (suc zero)) p v l e = rw e (record { line = v.line; least = v.ram_least; most = v.ram_most; pages = v.ram_pages; own = v.exit_latency })
+row_allowed c (suc (suc (suc zero))) p v l e = rw e (record { line = v.line; least = v.ram_least; most = v.ram_most; pages = v.ram_pages; own = (v.mem_latency, v.mem_queue) })
+row_allowed c (suc (suc (suc (suc zero)))) p v l e = rw e (record { line = v.line; least = v.ram_least; most = v.ram_most; pages = v.ram_pages; own = (v.membus_latency, refl) })
+row_allowed c (suc (suc (suc (suc (suc zero))))) p v l e = rw e (record { line = v.line; least = v.ram_least; most = v.ram_most; pages = v.ram_pages; own = v.cpu_period })
+row_allowed c (suc (suc (suc (suc (suc (suc zero)))))) p v l e = rw e (record { line = v.line; least = v.ram_least; most = v.ram_most; pages = v.ram_pages; own = (v.timer_latency, v.timer_period) })
+row_allowed c (suc (suc (suc (suc (suc (suc (suc zero))))))) p v l e = rw e (record { line = v.line; least = v.ram_least; most = v.ram_most; pages = v.ram_pages; own = (v.uart_latency, v.uart_chartime) })
+row_allowed c (suc (suc (suc (suc (suc (suc (suc (suc n)))))))) p v l e = absurd (omega (arith, l))
 
 -- bytes that are none change nothing
 no_bytes : (o : ObjState) → ram_loaded [] o ≡ o
 no_bytes (Blank k) = refl
 no_bytes (AtomicCpu s) = refl
+no_bytes (TimingCpu s) = refl
+no_bytes (Xbar s) = refl
 no_bytes (Server s) = by s.device refl where
   by : (d : Device) → s.device ≡ d → ram_loaded [] (Server s) ≡ Server s
   by (Memory m) e = rw e refl
@@ -272,10 +273,10 @@ no_bytes (Server s) = by s.device refl where
   by (Exit code) e = rw e refl
   by (Timer t) e = rw e refl
 
-objects_started : (c : Config) (i : ℕ) (ps : List Part) → all_configured c i ps ≡ map (λ o. cpu_started ram_base false (ram_loaded [] o)) (built_objects c i ps)
+objects_started : (c : Config) (i : ℕ) (ps : List Part) → all_configured c i ps ≡ map (λ o. cpu_started ram_base c.system_model (ram_loaded [] o)) (built_objects c i ps)
 objects_started c i [] = refl
 objects_started c i (p ∷ ps) = rw (no_bytes (built_object c i p), sym (objects_started c (i + 1) ps)) refl
 
 -- the machine of the configured parts is the one at its start
-pub started : (c : Config) → c.system_model ≡ false → standing c [] (all_configured c 0 (platform c)) ≡ start_state c ram_base []
-started c m = rw (objects_started c 0 (platform c), m) refl
+pub started : (c : Config) → standing c [] (all_configured c 0 (platform c)) ≡ start_state c ram_base []
+started c = rw (objects_started c 0 (platform c)) refl

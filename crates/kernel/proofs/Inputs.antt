@@ -7,7 +7,7 @@ use Rattle.std.proofs.lemmas.List.{length-append}
 use Rattle.std.specs.Prelude.{nat_lt}
 use Rattle.ev_queue.specs.declared.slot.Slot.{Slot}
 use Rattle.gm_model.specs.Command.{takes_input, with_input}
-use Rattle.gm_model.specs.ObjState.{ObjState, Blank, AtomicCpu, Server, Device, Memory, Uart, Exit, Timer}
+use Rattle.gm_model.specs.ObjState.{ObjState, Blank, AtomicCpu, TimingCpu, Xbar, Server, Device, Memory, Uart, Exit, Timer}
 use Rattle.gm_model.specs.Server.{device_takes_input, device_with_input}
 use Rattle.gm_model.specs.Stepped.{Commanded}
 use Rattle.gm_model.specs.Sys.{Sys}
@@ -74,6 +74,8 @@ free_in (Timer t) = 0
 abbrev free : ObjState → ℕ
 free (Blank k) = 0
 free (AtomicCpu s) = 0
+free (TimingCpu s) = 0
+free (Xbar s) = 0
 free (Server s) = free_in s.device
 
 abbrev free_all : List ObjState → ℕ
@@ -83,6 +85,8 @@ free_all (o ∷ os) = free o + free_all os
 free_few : (o : ObjState) → free o ≤ 256
 free_few (Blank k) = omega arith
 free_few (AtomicCpu s) = omega arith
+free_few (TimingCpu s) = omega arith
+free_few (Xbar s) = omega arith
 free_few (Server s) = by s.device where
   by : (d : Device) → free_in d ≤ 256
   by (Memory m) = omega arith
@@ -97,6 +101,8 @@ all_few (o ∷ os) = omega (arith, free_few o, all_few os)
 one_few : (b : ℕ) (o : ObjState) → (cond (takes_input o) 1 0) + free (with_input b o) ≤ free o
 one_few b (Blank k) = omega arith
 one_few b (AtomicCpu s) = omega arith
+one_few b (TimingCpu s) = omega arith
+one_few b (Xbar s) = omega arith
 one_few b (Server s) = by s.device where
   by : (d : Device) → (cond (device_takes_input d) 1 0) + free (cond (device_takes_input d) (Server (record s { device = device_with_input b d })) (Server (record s { device = d }))) ≤ free_in d
   by (Memory m) = omega arith

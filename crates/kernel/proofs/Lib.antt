@@ -7,6 +7,7 @@ pub mod Changes
 pub mod Runs
 pub mod Emitted
 pub mod Rows
+pub mod Passes
 pub mod Tables
 pub mod Draws
 pub mod Inputs

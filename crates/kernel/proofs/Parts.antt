@@ -4,8 +4,8 @@ use Rattle.std.proofs.Math.Seq.{drop-cons}
 use Rattle.std.proofs.lemmas.List.{get_or-map, length-map, map-set}
 use Rattle.ev_queue.specs.Queue.{Queue}
 use Rattle.gm_words.specs.Counts.{Counts}
-use Rattle.gm_words.specs.Platform.{End}
-use Rattle.gm_words.specs.Routes.{Router}
+use Rattle.gm_words.specs.Platform.{Part, wires_of, ways_of}
+use Rattle.gm_words.specs.Routes.{routes_of}
 use Rattle.gm_model.specs.ObjState.{ObjState, Blank, object_of}
 use Rattle.gm_model.specs.ObjectStep.{object_step, atomic_step}
 use Rattle.gm_model.specs.Command.{arch_of}
@@ -22,7 +22,7 @@ use Rattle.rv_step.specs.declared.arch.Arch.{Arch}
 
 module _ {X : Type 0} (f : X → ObjState) (xs : List X) (i : ℕ) (b : X) (here : i < length xs) (is : b ≡ get_or xs i b)
     (number : object_of (get_or (map f xs) i (Blank kinds.AtomicCpu)) ≡ i)
-    (tick rebased : ℕ) (counts : Counts) (trace draining : Bool) (wires : List (List End)) (router : Router) where
+    (tick rebased : ℕ) (counts : Counts) (trace draining : Bool) (board : List Part) where
   -- what the list shows at the part's place
   pub shown_at : get_or (map f xs) i (Blank kinds.AtomicCpu) ≡ f b
   shown_at = get_or-map f xs i b (Blank kinds.AtomicCpu) here ∙ sym (ap f is)
@@ -41,8 +41,9 @@ module _ {X : Type 0} (f : X → ObjState) (xs : List X) (i : ℕ) (b : X) (here
     rebased = rebased;
     trace = trace;
     draining = draining;
-    wires = wires;
-    router = router;
+    wires = wires_of board;
+    ways = ways_of board;
+    routes = routes_of 0 board;
   }
 
   -- the part was woken: it is the sender of what it asks for
@@ -96,14 +97,8 @@ module _ {X : Type 0} (f : X → ObjState) (xs : List X) (i : ℕ) (b : X) (r : 
     behind false k m = m
 
 -- a part takes no longer than a latency may be
-pub quick_passed : {X : Type 0} (f : X → ObjState) (xs : List X) (i : ℕ) (b : X) (p : Packet) (now r : ℕ) (way : Way) → i < length xs → b ≡ get_or xs i b
-    → r ≡ way_latency way → way ≡ (atomic_step (f b) p now).way → way_latency (atomic_step (get_or (map f xs) i (Blank kinds.AtomicCpu)) p now).way ≤ 1000000 → r ≤ 1000000
-quick_passed f xs i b p now r way here is e w l =
+pub quick_passed : {X : Type 0} (f : X → ObjState) (xs : List X) (i : ℕ) (b : X) (p : Packet) (now : ℕ) (way : Way) → i < length xs → b ≡ get_or xs i b
+    → way ≡ (atomic_step (f b) p now).way → way_latency (atomic_step (get_or (map f xs) i (Blank kinds.AtomicCpu)) p now).way ≤ 1000000 → way_latency way ≤ 1000000
+quick_passed f xs i b p now way here is w l =
     let same : get_or (map f xs) i (Blank kinds.AtomicCpu) ≡ f b = get_or-map f xs i b (Blank kinds.AtomicCpu) here ∙ sym (ap f is) in
-    omega (arith, e, ap way_latency w, ap (λ o. way_latency (atomic_step o p now).way) same, l)
-
--- a packet was passed to the object k, and its sender is to be told
-pub passed_answered : (d e : Delivery) (k : ℕ) (o : Option ℕ) (p q : Packet) (way latency sender : ℕ) → e ≡ deliver_passed d k p
-    → q ≡ (pass_at d.sys k p).packet → latency ≡ way_latency (pass_at d.sys k p).way → way ≡ d.sys.router.latency → Some k ≡ o
-    → done_at e sender q (way + latency) ≡ deliver_atomic d sender p o
-passed_answered d e k o p q way latency sender h f l w r = rw (← r, h, f, l, w) refl
+    omega (arith, ap way_latency w, ap (λ o. way_latency (atomic_step o p now).way) same, l)

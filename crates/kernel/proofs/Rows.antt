@@ -1,5 +1,5 @@
 -- Loops over the rows of the platform.
-use Rattle.std.proofs.Common.{◌≡◌, ℕ, suc, zero, ◌+◌, ◌<◌, ◌≤◌, ◌==◌, add-one, refl, sym, ◌∙◌, ap, subst, arith, if◌then◌else◌, Bool, true, false, List, [], ◌∷◌, ◌++◌, length, map, drop, get_or, slice_index_or}
+use Rattle.std.proofs.Common.{◌≡◌, ℕ, suc, zero, ◌+◌, ◌<◌, ◌≤◌, ◌==◌, add-one, refl, sym, ◌∙◌, ap, subst, arith, if◌then◌else◌, Bool, true, false, List, [], ◌∷◌, ◌++◌, length, map, drop, get_or, slice_index_or, is_some, Option, Some, None}
 use Rattle.std.proofs.lemmas.Bool.Decides.{nat_tests}
 use Rattle.std.proofs.Math.ListN.{drop_of_length-le}
 use Rattle.std.proofs.Math.Seq.{drop-cons}
@@ -7,8 +7,8 @@ use Rattle.std.proofs.lemmas.List.{append_assoc, append-nil, get_or-map, length-
 use Rattle.cfg_tree.specs.declared.config.Config.{Config}
 use Rattle.ev_queue.specs.declared.due.Due.{Due}
 use Rattle.gm_words.specs.Kind.{kind_of_own}
-use Rattle.gm_words.specs.Platform.{Part, part_classes, platform, wires_of}
-use Rattle.gm_words.specs.Routes.{Route, Router, route_to, router_of, routes_of}
+use Rattle.gm_words.specs.Platform.{Part, End, Range, is_within, part_classes, platform, wires_of, ways_of}
+use Rattle.gm_words.specs.Routes.{Route, destination, route_to, routes_of}
 use Rattle.gm_words.specs.Shown.{end_shown, part_shown}
 use Rattle.gm_words.specs.declared.platform.End.{End as KeptEnd}
 use Rattle.gm_words.specs.declared.kind.Kind.{Kind}
@@ -17,6 +17,17 @@ use Rattle.gm_model.specs.ObjState.{ObjState, kind_of}
 use Rattle.gm_model.specs.Sys.{Sys, peer_in}
 use Rattle.probe_stats.specs.Counted.{Counted, begun_at}
 use Rattle.kernel.specs.Build.{rank_of, parts_of, rows_of, slot_counts, standing}
+
+-- an address goes to a part that has it, or where the routes behind lead
+route_first : (i a : ℕ) (o : Option Range) (rs : List Route) → destination (route_to i o ++ rs) a ≡ (if is_some (destination (route_to 0 o) a) then Some i else destination rs a)
+route_first i a None rs = refl
+route_first i a (Some r) rs = by (is_within a r) where
+  one : Bool → Option ℕ
+  one b = if b then Some 0 else None
+
+  by : (b : Bool) → (if b then Some i else destination rs a) ≡ (if is_some (one b) then Some i else destination rs a)
+  by true = refl
+  by false = refl
 
 -- the rows from a place on
 module _ (xs : List KeptPart) (i : ℕ) (x : KeptPart) (here : i < length xs) (is : x ≡ get_or xs i x) where
@@ -27,12 +38,13 @@ module _ (xs : List KeptPart) (i : ℕ) (x : KeptPart) (here : i < length xs) (i
   pub row_at : part_shown x ≡ get_or (map part_shown xs) i (part_shown x)
   row_at = sym (get_or-map part_shown xs i x (part_shown x) here ∙ sym (ap part_shown is))
 
-  pub route_more : (old new all : List Route) → new ≡ old ++ route_to i (part_shown x).range → old ++ routes_of i (drop i (map part_shown xs)) ≡ all
-      → new ++ routes_of (i + 1) (drop (i + 1) (map part_shown xs)) ≡ all
-  route_more old new all e h =
-      ap (λ rs. rs ++ routes_of (i + 1) (drop (i + 1) (map part_shown xs))) e
-      ∙ (append_assoc old (route_to i (part_shown x).range) (routes_of (i + 1) (drop (i + 1) (map part_shown xs)))
-      ∙ (ap (λ ps. old ++ routes_of i ps) (sym first_row) ∙ h))
+  -- the exit device's address goes to the first row, or where the others have it
+  pub exit_first : (a : ℕ) (h : Bool) → h ≡ is_some (destination (route_to 0 (part_shown x).range) a)
+      → destination (routes_of i (drop i (map part_shown xs))) a ≡ (if h then Some i else destination (routes_of (i + 1) (drop (i + 1) (map part_shown xs))) a)
+  exit_first a h e =
+      ap (λ ps. destination (routes_of i ps) a) first_row
+      ∙ (route_first i a (part_shown x).range (routes_of (i + 1) (drop (i + 1) (map part_shown xs)))
+      ∙ ap (λ b. if b then Some i else destination (routes_of (i + 1) (drop (i + 1) (map part_shown xs))) a) (sym e))
 
   pub count_more : (old new all : List ℕ) (n : ℕ) → new ≡ old ++ n ∷ [] → n ≡ length (part_classes (part_shown x)) → old ++ slot_counts (drop i (map part_shown xs)) ≡ all
       → new ++ slot_counts (drop (i + 1) (map part_shown xs)) ≡ all
@@ -52,9 +64,6 @@ rows_length xs ps e = let k : length (map part_shown xs) ≡ length ps = ap (λ 
 -- at the end no row is left
 pub no_row : (xs : List KeptPart) (i : ℕ) → length xs ≤ i → drop i (map part_shown xs) ≡ []
 no_row xs i l = drop_of_length-le (map part_shown xs) (rw length-map l)
-
-pub routes_done : (xs : List KeptPart) (i : ℕ) (old all : List Route) → length xs ≤ i → old ++ routes_of i (drop i (map part_shown xs)) ≡ all → old ≡ all
-routes_done xs i old all l h = sym (append-nil old) ∙ (ap (λ ps. old ++ routes_of i ps) (sym (no_row xs i l)) ∙ h)
 
 pub counts_done : (xs : List KeptPart) (i : ℕ) (old all : List ℕ) → length xs ≤ i → old ++ slot_counts (drop i (map part_shown xs)) ≡ all → old ≡ all
 counts_done xs i old all l h = sym (append-nil old) ∙ (ap (λ ps. old ++ slot_counts ps) (sym (no_row xs i l)) ∙ h)
@@ -94,31 +103,55 @@ none_here a b r all left e other h = by (a == b) (no a b other) e where
 pub counted_none : (n a b m r all : ℕ) (left : ℕ) → left ≡ (if a == b then 1 else 0) + r → (a ≡ b → ⊥) → m ≡ n → n + left ≡ all → m + r ≡ all
 counted_none n a b m r all left e other k h = let same : r ≡ left = none_here a b r left left e other refl in omega (arith, same, k, h)
 
--- the peer of a port of a row that is there, and of one that isn't
-wires_at : (ps : List Part) (k : ℕ) (p : Part) → k < length ps → p ≡ get_or ps k p → slice_index_or (wires_of ps) k [] ≡ p.peers
-wires_at [] k p l e = absurd (omega arith)
-wires_at (q ∷ qs) zero p l e = ap (λ (x : Part). x.peers) (sym e)
-wires_at (q ∷ qs) (suc k) p l e = wires_at qs k p (omega arith) e
+-- where the ports of the rows lead: `f` tells a row's wires or its ways
+wires_map : (ps : List Part) → wires_of ps ≡ map (λ p. p.peers) ps
+wires_map [] = refl
+wires_map (p ∷ ps) = ap (λ es. p.peers ∷ es) (wires_map ps)
 
-wires_past : (ps : List Part) (k : ℕ) → length ps ≤ k → slice_index_or (wires_of ps) k [] ≡ []
-wires_past [] k l = refl
-wires_past (q ∷ qs) zero l = absurd (omega arith)
-wires_past (q ∷ qs) (suc k) l = wires_past qs k (omega arith)
+ways_map : (ps : List Part) → ways_of ps ≡ map (λ p. p.ways) ps
+ways_map [] = refl
+ways_map (p ∷ ps) = ap (λ es. p.ways ∷ es) (ways_map ps)
 
-pub peer_there : (xs : List KeptPart) (k p : ℕ) (x : KeptPart) (peers : List KeptEnd) (r : KeptEnd) → k < length xs → x ≡ get_or xs k x
-    → peers ≡ (get_or xs k x).peers.items → end_shown r ≡ slice_index_or (map end_shown peers) p (record { part = k; port = p })
-    → end_shown r ≡ peer_in (wires_of (map part_shown xs)) k p
-peer_there xs k p x peers r l is same h =
-    let mine : peers ≡ x.peers.items = same ∙ ap (λ (y : KeptPart). y.peers.items) (sym is) in
-    h ∙ (ap (λ ys. slice_index_or (map end_shown ys) p (record { part = k; port = p })) mine
-    ∙ ap (λ ys. slice_index_or ys p (record { part = k; port = p })) (sym (wires_at (map part_shown xs) k (part_shown x) (rw length-map l) (row_at xs k x l is))))
+module _ (f : Part → List End) where
+  ends_past : (ps : List Part) (k : ℕ) → length ps ≤ k → slice_index_or (map f ps) k [] ≡ []
+  ends_past [] k l = refl
+  ends_past (q ∷ qs) zero l = absurd (omega arith)
+  ends_past (q ∷ qs) (suc k) l = ends_past qs k (omega arith)
 
-pub peer_past : (xs : List KeptPart) (k p : ℕ) → length xs ≤ k → record { part = k; port = p } ≡ peer_in (wires_of (map part_shown xs)) k p
-peer_past xs k p l = ap (λ ys. slice_index_or ys p (record { part = k; port = p })) (sym (wires_past (map part_shown xs) k (rw length-map l)))
+  -- of a row that is there, and of one that isn't
+  end_there : (xs : List KeptPart) (k p : ℕ) (x : KeptPart) (ends : List KeptEnd) (r : KeptEnd) → k < length xs → x ≡ get_or xs k x
+      → map end_shown ends ≡ f (part_shown x) → end_shown r ≡ slice_index_or (map end_shown ends) p (record { part = k; port = p })
+      → end_shown r ≡ peer_in (map f (map part_shown xs)) k p
+  end_there xs k p x ends r l is mine h =
+      let at : get_or (map f (map part_shown xs)) k [] ≡ f (part_shown x) =
+      get_or-map f (map part_shown xs) k (part_shown x) [] (rw length-map l) ∙ sym (ap f (row_at xs k x l is)) in
+      h ∙ ap (λ ys. slice_index_or ys p (record { part = k; port = p })) (mine ∙ sym at)
+
+  end_past : (xs : List KeptPart) (k p : ℕ) → length xs ≤ k → record { part = k; port = p } ≡ peer_in (map f (map part_shown xs)) k p
+  end_past xs k p l = ap (λ ys. slice_index_or ys p (record { part = k; port = p })) (sym (ends_past (map part_shown xs) k (rw length-map l)))
+
+module _ (xs : List KeptPart) (k p : ℕ) where
+  pub peer_there : (x : KeptPart) (ends : List KeptEnd) (r : KeptEnd) → k < length xs → x ≡ get_or xs k x → ends ≡ (get_or xs k x).peers.items
+      → end_shown r ≡ slice_index_or (map end_shown ends) p (record { part = k; port = p }) → end_shown r ≡ peer_in (wires_of (map part_shown xs)) k p
+  peer_there x ends r l is same h =
+      end_there (λ q. q.peers) xs k p x ends r l is (ap (map end_shown) (same ∙ ap (λ (y : KeptPart). y.peers.items) (sym is))) h
+      ∙ ap (λ es. peer_in es k p) (sym (wires_map (map part_shown xs)))
+
+  pub peer_past : length xs ≤ k → record { part = k; port = p } ≡ peer_in (wires_of (map part_shown xs)) k p
+  peer_past l = end_past (λ q. q.peers) xs k p l ∙ ap (λ es. peer_in es k p) (sym (wires_map (map part_shown xs)))
+
+  pub way_there : (x : KeptPart) (ends : List KeptEnd) (r : KeptEnd) → k < length xs → x ≡ get_or xs k x → ends ≡ (get_or xs k x).ways.items
+      → end_shown r ≡ slice_index_or (map end_shown ends) p (record { part = k; port = p }) → end_shown r ≡ peer_in (ways_of (map part_shown xs)) k p
+  way_there x ends r l is same h =
+      end_there (λ q. q.ways) xs k p x ends r l is (ap (map end_shown) (same ∙ ap (λ (y : KeptPart). y.ways.items) (sym is))) h
+      ∙ ap (λ es. peer_in es k p) (sym (ways_map (map part_shown xs)))
+
+  pub way_past : length xs ≤ k → record { part = k; port = p } ≡ peer_in (ways_of (map part_shown xs)) k p
+  way_past l = end_past (λ q. q.ways) xs k p l ∙ ap (λ es. peer_in es k p) (sym (ways_map (map part_shown xs)))
 
 -- the machine of these rows, before anything was counted or noted
-pub stands : (c : Config) (pending : List Due) (objects : List ObjState) (rows : List Part) (tick next : ℕ) (k : Counted) (r : Router)
-    → tick ≡ k.since → k ≡ begun_at c 0 → next ≡ 0 → rows ≡ platform c → r ≡ router_of c
+pub stands : (c : Config) (pending : List Due) (objects : List ObjState) (rows : List Part) (tick next : ℕ) (k : Counted)
+    → tick ≡ k.since → k ≡ begun_at c 0 → next ≡ 0 → rows ≡ platform c
     → ◌≡◌ {A = Sys} (record {
       tick = tick;
       pending = pending;
@@ -129,6 +162,7 @@ pub stands : (c : Config) (pending : List Due) (objects : List ObjState) (rows :
       trace = false;
       draining = true;
       wires = wires_of rows;
-      router = r;
+      ways = ways_of rows;
+      routes = routes_of 0 rows;
     }) (standing c pending objects)
-stands c pending objects rows tick next k r now counted none platform_is route = rw now (rw counted (rw none (rw platform_is (rw route refl))))
+stands c pending objects rows tick next k now counted none platform_is = rw now (rw counted (rw none (rw platform_is refl)))

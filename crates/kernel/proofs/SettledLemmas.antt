@@ -4,18 +4,22 @@ use Rattle.cfg_tree.specs.declared.config.Config.{Config}
 use Rattle.ev_queue.specs.declared.due.Due.{Due}
 use Rattle.gm_model.specs.Command.{with_own_bytes, is_drained}
 use Rattle.gm_model.specs.Drained.{is_settled, are_drained, are_device_events, is_device_event}
-use Rattle.gm_model.specs.ObjState.{ObjState, Blank, AtomicCpu, Server, Device, Memory, Uart, Exit, Timer}
+use Rattle.gm_model.specs.ObjState.{ObjState, Blank, AtomicCpu, TimingCpu, Xbar, Server, Device, Memory, Uart, Exit, Timer}
 use Rattle.gm_model.specs.Start.{start_state, with_raw}
 use Rattle.gm_model.specs.Sys.{Sys, object_at}
+use Rattle.gm_model.specs.Xbar.{are_idle}
+use Rattle.gm_words.specs.PortUses.{used}
 use Rattle.gm_words.specs.declared.kind.Kind.TheVariants as kinds
 use Rattle.rv_step.specs.FlatMem.{ram_base}
 use Rattle.kernel.specs.Settled.{IsSettled}
 
--- a machine at its start is settled
-pub start_settled : (c : Config) (entry : ℕ) (ram : List ℕ) → c.system_model ≡ false → IsSettled (start_state c entry ram)
-start_settled c entry ram e =
-    let P : Bool → Type 0 = λ b. IsSettled (start_state (record c { system_model = b }) entry ram) in
-    subst P (sym e) (record { draining = refl; drained = refl })
+-- a machine at its start is settled, in either mode
+pub start_settled : (c : Config) (entry : ℕ) (ram : List ℕ) → IsSettled (start_state c entry ram)
+unfolding are_idle used
+start_settled c entry ram = by c.system_model where
+  by : (b : Bool) → IsSettled (start_state (record c { system_model = b }) entry ram)
+  by true = record { draining = refl; drained = refl }
+  by false = record { draining = refl; drained = refl }
 
 -- bytes that a part keeps say nothing of packets and events
 module _ (at : ℕ) (bytes : List ℕ) where
@@ -23,11 +27,15 @@ module _ (at : ℕ) (bytes : List ℕ) where
   put_drained_parts [] = refl
   put_drained_parts (Blank k ∷ os) = put_drained_parts os
   put_drained_parts (AtomicCpu s ∷ os) = ap (λ b. is_drained (AtomicCpu s) && b) (put_drained_parts os)
+  put_drained_parts (TimingCpu s ∷ os) = ap (λ b. is_drained (TimingCpu s) && b) (put_drained_parts os)
+  put_drained_parts (Xbar s ∷ os) = ap (λ b. is_drained (Xbar s) && b) (put_drained_parts os)
   put_drained_parts (Server s ∷ os) = ap (λ b. is_drained (Server s) && b) (put_drained_parts os)
 
   put_event : (o : ObjState) (slot : ℕ) → is_device_event (with_own_bytes at bytes o) slot ≡ is_device_event o slot
   put_event (Blank k) slot = refl
   put_event (AtomicCpu s) slot = refl
+  put_event (TimingCpu s) slot = refl
+  put_event (Xbar s) slot = refl
   put_event (Server s) slot = by_device s.device where
     by_device : (d : Device) → is_device_event (with_own_bytes at bytes (Server (record s { device = d }))) slot ≡ is_device_event (Server (record s { device = d })) slot
     by_device (Memory m) = refl

@@ -5,12 +5,17 @@ use Rattle.std.proofs.lemmas.List.{append_assoc}
 use Rattle.ev_queue.specs.declared.slot.Slot.{Slot}
 use Rattle.ev_queue.specs.SlotTable.{is_slot, has_slot, class_of, is_free, granted, object_slots, all_slots}
 use Rattle.ev_queue.specs.Handle.{Handle}
-use Rattle.gm_words.specs.Platform.{Part, part_classes, slot_classes}
-use Rattle.gm_words.specs.declared.kind.Kind.{Kind}
-use Rattle.gm_words.specs.declared.kind.Kind.TheVariants as kinds
+use Rattle.cfg_tree.specs.declared.config.Config.{Config}
+use Rattle.gm_words.specs.Platform.{Part, part_classes, platform}
+use Rattle.gm_words.specs.PortUses.{used, fore, is_total}
 use Rattle.gm_words.specs.Slots.{given_slots, given_table}
 use Rattle.obj_core.specs.Handles.{handles_from}
-use Rattle.kernel.specs.Build.{AreFree, all_granted, slot_counts, added, is_kept}
+use Rattle.kernel.specs.Build.{AreFew, AreFree, all_granted, slot_counts, added, is_kept, are_kept}
+
+-- both are so
+both : (a b : Bool) → (a && b) ≡ true → (a ≡ true) × (b ≡ true)
+both true b h = (refl, h)
+both false b h = cc h
 
 -- a slot whose handle wasn't given, and one whose handle was
 abbrev free_slot : ℕ → ℕ → Slot
@@ -174,37 +179,31 @@ module _ (object class slot c : ℕ) (cs : List ℕ) (hs : List Handle) where
     by true = append_assoc hs (record { owner = object; slot = slot } ∷ []) (handles_from object class (slot + 1) cs)
     by false = refl
 
--- the classes of all kinds are ones that handles are kept of
-pub known_at : (k : Kind) (j c : ℕ) → j < length (slot_classes k) → c ≡ get_or (slot_classes k) j c → is_kept c ≡ true
-known_at k j c l e = by_list (slot_classes k) j c (all_known k) l e where
-  AllKnown : List ℕ → Type 0
-  AllKnown [] = Unit {0}
-  AllKnown (x ∷ xs) = (is_kept x ≡ true) × AllKnown xs
+-- handles are kept of each of the classes
+pub kept_at : (cs : List ℕ) (j c : ℕ) → IsTrue (are_kept cs) → j < length cs → c ≡ get_or cs j c → is_kept c ≡ true
+kept_at [] j c a l e = absurd (omega arith)
+kept_at (x ∷ xs) zero c a l e = rw e (both (is_kept x) (are_kept xs) a).0
+kept_at (x ∷ xs) (suc j) c a l e = kept_at xs j c (both (is_kept x) (are_kept xs) a).1 (omega arith) e
 
-  all_known : (k : Kind) → AllKnown (slot_classes k)
-  all_known kinds.AtomicCpu = (refl, tt)
-  all_known kinds.TimingCpu = tt
-  all_known kinds.Xbar = tt
-  all_known kinds.Cache = tt
-  all_known kinds.Mem = (refl, tt)
-  all_known kinds.Uart = (refl, (refl, tt))
-  all_known kinds.Timer = (refl, (refl, tt))
-  all_known kinds.Exit = (refl, tt)
-  all_known kinds.Dma = tt
+-- they are of all classes that the platform has
+pub classes_kept : (c : Config) (n : ℕ) (p : Part) → n < length (platform c) → p ≡ get_or (platform c) n p → IsTrue (are_kept (part_classes p))
+unfolding used fore is_total
+classes_kept c zero p l e = rw e refl
+classes_kept c (suc zero) p l e = rw e refl
+classes_kept c (suc (suc zero)) p l e = rw e refl
+classes_kept c (suc (suc (suc zero))) p l e = rw e refl
+classes_kept c (suc (suc (suc (suc zero)))) p l e = rw e refl
+classes_kept c (suc (suc (suc (suc (suc zero))))) p l e = rw e refl
+classes_kept c (suc (suc (suc (suc (suc (suc zero)))))) p l e = rw e refl
+classes_kept c (suc (suc (suc (suc (suc (suc (suc zero))))))) p l e = rw e refl
+classes_kept c (suc (suc (suc (suc (suc (suc (suc (suc n)))))))) p l e = absurd (omega (arith, l))
 
-  by_list : (xs : List ℕ) (j c : ℕ) → AllKnown xs → j < length xs → c ≡ get_or xs j c → is_kept c ≡ true
-  by_list [] j c a l e = absurd (omega arith)
-  by_list (x ∷ xs) zero c a l e = rw e a.0
-  by_list (x ∷ xs) (suc j) c a l e = by_list xs j c a.1 (omega arith) e
+-- and they are few
+pub few_classes : (c : Config) → AreFew (platform c)
+unfolding used fore is_total
+few_classes c = (omega arith, (omega arith, (omega arith, (omega arith, (omega arith, (omega arith, (omega arith, (omega arith, tt))))))))
 
--- they are few
-pub few_slots : (k : Kind) → length (slot_classes k) ≤ 255
-few_slots kinds.AtomicCpu = omega arith
-few_slots kinds.TimingCpu = omega arith
-few_slots kinds.Xbar = omega arith
-few_slots kinds.Cache = omega arith
-few_slots kinds.Mem = omega arith
-few_slots kinds.Uart = omega arith
-few_slots kinds.Timer = omega arith
-few_slots kinds.Exit = omega arith
-few_slots kinds.Dma = omega arith
+pub few_at : (ps : List Part) (n : ℕ) (p : Part) → AreFew ps → n < length ps → p ≡ get_or ps n p → length (part_classes p) ≤ 255
+few_at [] n p f l e = absurd (omega arith)
+few_at (q ∷ qs) zero p f l e = rw e f.0
+few_at (q ∷ qs) (suc n) p f l e = few_at qs n p f.1 (omega arith) e

@@ -8,16 +8,16 @@ use Rattle.gc_base.specs.declared.ids.PortNo.{PortNo}
 use Rattle.gm_words.specs.Allowed.{MayCome}
 use Rattle.gm_words.specs.Counts.{Counts, IsCountedUpTo}
 use Rattle.gm_words.specs.Platform.{End}
-use Rattle.gm_words.specs.Routes.{destination}
 use Rattle.gm_words.specs.declared.act.Act.TheVariants as acts
 use Rattle.pkt_pool.specs.declared.packet.Packet.{Packet}
 use Rattle.gm_words.specs.declared.wake.Wake.{Wake}
 use Rattle.gm_words.specs.declared.wake.Wake.TheVariants as wakes
 use Rattle.gm_model.specs.Deliver.{Item, Sent, Done, Delivery, deliver_first, deliver, deliver_wake, told_wake, sent_by}
 use Rattle.gm_model.specs.Fire.{taken_out}
+use Rattle.gm_model.specs.Ports.{ComesWithin}
 use Rattle.gm_model.specs.Sys.{Sys, object_at, active_cpu, peer_in, step_at}
 use Rattle.gm_system.specs.Machine.{HasSoundParts, IsMachineSound}
-use Rattle.gm_system.proofs.ForKernel.{parts_few, part_handles, first_tick, first_fits, pass_soon, pass_there, done_there, line_fits, active_there, IsOffered, offer_stands, call_there, owner_there, begun, first_stays, all_done, taken_parts}
+use Rattle.gm_system.proofs.ForKernel.{parts_few, part_handles, first_tick, first_fits, pass_soon, has_way, done_there, line_fits, active_there, IsOffered, offer_stands, call_there, call_port, owner_there, begun, first_stays, all_done, taken_parts}
 use Rattle.obj_core.specs.Handles.{HasHandles}
 use Rattle.kernel.proofs.Deliveries.{first_counts, deliver_least}
 use Rattle.gm_words.proofs.CountLaws.{counted_at_most}
@@ -35,46 +35,39 @@ ready d table i l h tick events numbers noted = record {
 }
 
 wake_ready : (d : Delivery) (table : List Slot) (i : ℕ) (w : Wake) → i < length d.sys.objects → HasSoundParts d.sys table → d.sys.tick ≤ 4611703610613432320 → HasEventsLeft d.sys
-    → d.sys.next ≤ 512 * d.sys.counts.events + 513 → length d.entries ≤ 512 → MayCome w → IsReadyForWake d table i w
-wake_ready d table i w l h tick events numbers noted may = record {
+    → d.sys.next ≤ 512 * d.sys.counts.events + 513 → length d.entries ≤ 512 → MayCome w → ComesWithin (object_at d.sys i) w → IsReadyForWake d table i w
+wake_ready d table i w l h tick events numbers noted may port = record {
   ready = ready d table i l h tick events numbers noted;
   number = h.numbered i l;
   wake = may;
+  port = port;
 }
 
 -- while an event is under way
-first_ready : (d : Delivery) (table : List Slot) (is : List Item) (i : ℕ) (w : Wake) → IsUnderWay d table → i < length d.sys.objects → MayCome w → IsReadyForWake (record d { items = is }) table i w
-first_ready d table is i w h l may =
-    wake_ready (record d { items = is }) table i w l h.sound.parts h.tick h.events (omega (arith, h.sound.numbers)) (omega (arith, h.sound.entries)) may
+first_ready : (d : Delivery) (table : List Slot) (is : List Item) (i : ℕ) (w : Wake) → IsUnderWay d table → i < length d.sys.objects → MayCome w → ComesWithin (object_at d.sys i) w
+    → IsReadyForWake (record d { items = is }) table i w
+first_ready d table is i w h l may port =
+    wake_ready (record d { items = is }) table i w l h.sound.parts h.tick h.events (omega (arith, h.sound.numbers)) (omega (arith, h.sound.entries)) may port
 
 -- a packet that is the first item may be passed on
 pub pass_ready : (d : Delivery) (table : List Slot) (i : ℕ) (port : PortNo) (p : Packet) (is : List Item) → d.items ≡ Sent i (acts.Atomic port p) ∷ is
-    → IsUnderWay d table → MayGoOn (record d { items = is }) table p
+    → IsUnderWay d table → MayGoOn (record d { items = is }) table (peer_in d.sys.ways i port.0).part p
 pass_ready d table i port p is e h = record {
-  size = (first_fits d table h.sound (Sent i (acts.Atomic port p)) is e).0;
-  way = h.sound.parts.way;
-  server = by_route (destination d.sys.routes p.addr) (λ k r. server_ready k r);
-} where
-  server_ready : (k : ℕ) → destination d.sys.routes p.addr ≡ Some k → IsReadyForPacket (record d { items = is }) table k p
-  server_ready k r =
-      let l : k < length d.sys.objects = pass_there d table k p h.sound r in
-      record {
-        ready = ready (record d { items = is }) table k l h.sound.parts h.tick h.events (omega (arith, h.sound.numbers)) (omega (arith, h.sound.entries));
-        number = h.sound.parts.numbered k l;
-        packet = (first_fits d table h.sound (Sent i (acts.Atomic port p)) is e).0;
-        latency = pass_soon d.sys table k p h.sound.parts;
-      }
-
-  by_route : (o : Option ℕ) → ((k : ℕ) → o ≡ Some k → IsReadyForPacket (record d { items = is }) table k p) → IfSome o (λ k. IsReadyForPacket (record d { items = is }) table k p)
-  by_route None f = search rules
-  by_route (Some k) f = f k refl
+  way = has_way d table i port.0 p is h.sound e;
+  parts = λ k l. record {
+    ready = ready (record d { items = is }) table k l h.sound.parts h.tick h.events (omega (arith, h.sound.numbers)) (omega (arith, h.sound.entries));
+    number = h.sound.parts.numbered k l;
+    packet = (first_fits d table h.sound (Sent i (acts.Atomic port p)) is e).0;
+    latency = pass_soon d.sys table k p h.sound.parts;
+  };
+}
 
 -- the sender of a response that is the first item may be told
 pub done_ready : (d : Delivery) (table : List Slot) (i latency : ℕ) (p : Packet) (is : List Item) → d.items ≡ Done i p latency ∷ is
     → IsUnderWay d table → IsReadyForWake (record d { items = is }) table i (wakes.AtomicDone p latency)
 done_ready d table i latency p is e h =
     let fits = first_fits d table h.sound (Done i p latency) is e in
-    first_ready d table is i (wakes.AtomicDone p latency) h (done_there d table i latency p is h.sound e) (fits.0, fits.1)
+    first_ready d table is i (wakes.AtomicDone p latency) h (done_there d table i latency p is h.sound e) (fits.0, fits.1) tt
 
 -- the active CPU may get an interrupt line's level that is the first item
 pub line_ready : (d : Delivery) (table : List Slot) (i bit : ℕ) (level : Bool) (is : List Item) → d.items ≡ Sent i (acts.SetLine bit level) ∷ is
@@ -82,14 +75,14 @@ pub line_ready : (d : Delivery) (table : List Slot) (i bit : ℕ) (level : Bool)
 line_ready d table i bit level is e h = by_cpu (active_cpu d.sys.objects) refl where
   by_cpu : (o : Option ℕ) → active_cpu d.sys.objects ≡ o → IfSome o (λ k. IsReadyForWake (record d { items = is }) table k (wakes.Line bit level))
   by_cpu None f = search rules
-  by_cpu (Some k) f = first_ready d table is k (wakes.Line bit level) h (active_there d.sys.objects k f) (line_fits d table i bit level is h.sound e)
+  by_cpu (Some k) f = first_ready d table is k (wakes.Line bit level) h (active_there d.sys.objects k f) (line_fits d table i bit level is h.sound e) tt
 
 -- the peer of a port that is called may be woken
 pub call_ready : (d : Delivery) (table : List Slot) (i : ℕ) (port : PortNo) (is : List Item) → d.items ≡ Sent i (acts.CallRetry port) ∷ is
     → IsUnderWay d table → (let e : End = peer_in d.sys.wires i port.0 in IsReadyForWake (record d { items = is }) table e.part (wakes.Retry (record { 0 = e.port })))
 call_ready d table i port is e h =
     let q : End = peer_in d.sys.wires i port.0 in
-    first_ready d table is q.part (wakes.Retry (record { 0 = q.port })) h (call_there d table i port.0 is h.sound e) tt
+    first_ready d table is q.part (wakes.Retry (record { 0 = q.port })) h (call_there d table i port.0 is h.sound e) tt (call_port d table i port.0 is h.sound e)
 
 -- there are few parts
 pub few_parts : (d : Delivery) (table : List Slot) → IsUnderWay d table → length d.sys.objects ≤ 256
@@ -124,14 +117,14 @@ offer_ready d table i port p is e h =
     let after : IsUnderWay (deliver_wake (deliver_wake rest q.part w) i t) table =
     subst (λ xs. IsUnderWay (deliver_first d xs) table) e (first_under_way d table h) in
     record {
-      shown = first_ready d table is q.part w h o.peer fits.0;
+      shown = first_ready d table is q.part w h o.peer fits.0 o.shown_port;
       room = omega (
         arith,
         items_few (deliver_wake (deliver_wake rest q.part w) i t) table after,
         length-append (deliver_wake rest q.part w).items (sent_by i (step_at (deliver_wake rest q.part w).sys i t).acts),
       );
       told = wake_ready (deliver_wake rest q.part w) table i t (omega (arith, o.objects, o.sender)) o.parts h.tick h.events
-          (omega (arith, o.numbers, h.sound.numbers)) (omega (arith, after.sound.entries, length-append (deliver_wake rest q.part w).entries (step_at (deliver_wake rest q.part w).sys i t).entries)) o.told;
+          (omega (arith, o.numbers, h.sound.numbers)) (omega (arith, after.sound.entries, length-append (deliver_wake rest q.part w).entries (step_at (deliver_wake rest q.part w).sys i t).entries)) o.told o.told_port;
     }
 
 -- what an event has noted can be counted
@@ -154,7 +147,7 @@ may_serve s table n t e h events g l =
     let b : Sys = taken_out s n t in
     record {
       ready = wake_ready (not_begun b) table e.owner.0 (wakes.Event e.slot) (owner_there s table n t e h.steady g) (taken_parts s table n t h.steady.parts) l events
-          (omega (arith, h.steady.numbers)) (omega arith) tt;
+          (omega (arith, h.steady.numbers)) (omega arith) tt tt;
       under_way = record { sound = begun s table n t e h.steady g; tick = l; events = events };
     }
 

@@ -1,18 +1,16 @@
 -- Which parts a machine takes, and when it can't be built. This project's own rule.
-use Rattle.std.specs.Prelude.{◌≡◌, ℕ, ◌+◌, ◌≤◌, ◌==◌, nat_lt, Bool, true, false, ◌||◌, is_some, if◌then◌else◌, IsTrue, List, [], ◌∷◌, ◌++◌, length, map, Option, Some, None}
+use Rattle.std.specs.Prelude.{◌≡◌, ℕ, ◌+◌, ◌≤◌, ◌==◌, nat_lt, Bool, true, false, ◌||◌, ◌&&◌, is_some, if◌then◌else◌, IsTrue, List, [], ◌∷◌, ◌++◌, length, map, Option, Some, None}
 use Rattle.ev_queue.specs.Handle.{Handle}
 use Rattle.ev_queue.specs.SlotTable.{is_free, granted}
 use Rattle.ev_queue.specs.declared.due.Due.{Due}
 use Rattle.ev_queue.specs.declared.slot.Slot.{Slot}
-use Rattle.rv_step.specs.Arch.{reset}
 use Rattle.rv_step.specs.FlatMem.{ram_base}
 use Rattle.gm_words.specs.Counts.{no_counts}
 use Rattle.gm_words.specs.Kind.{kind_of_own}
 use Rattle.gm_model.specs.ObjState.{ObjState, kind_of, IsBlank}
-use Rattle.gm_words.specs.Platform.{Part, part_classes, platform, wires_of}
-use Rattle.gm_words.specs.Routes.{router_of}
-use Rattle.gm_model.specs.Command.{with_arch}
-use Rattle.gm_model.specs.Start.{built_object}
+use Rattle.gm_words.specs.Platform.{Part, part_classes, platform, wires_of, ways_of}
+use Rattle.gm_words.specs.Routes.{routes_of}
+use Rattle.gm_model.specs.Start.{built_object, cpu_started}
 use Rattle.gm_model.specs.Sys.{Sys}
 use Rattle.cfg_tree.specs.declared.config.CacheConfig.{CacheConfig}
 use Rattle.cfg_tree.specs.declared.config.Config.{Config}
@@ -54,7 +52,6 @@ some_cache (c ∷ cs) = true
 
 -- the configuration asks for a part of a kind that isn't built yet
 abbrev pub asks_more : Config → Kind → Bool
-asks_more c kinds.TimingCpu = c.system_model
 asks_more c kinds.Cache = some_cache c.caches
 asks_more c kinds.Dma = is_some c.dma
 asks_more c _ = false
@@ -100,6 +97,11 @@ AreEnough ss ps = (k : Kind) → rows_of k ps ≤ parts_of k ss
 abbrev pub slot_counts : List Part → List ℕ
 slot_counts ps = map (λ p. length (part_classes p)) ps
 
+-- no part has more of them than a slot's number can name
+abbrev pub AreFew : List Part → Type 0
+AreFew [] = Unit {0}
+AreFew (p ∷ ps) = (length (part_classes p) ≤ 255) × AreFew ps
+
 -- a part's slots are free, and stay so until each one's handle is given with its class
 abbrev pub AreFree : List Slot → ℕ → ℕ → List ℕ → Type 0
 AreFree table object slot [] = Unit {0}
@@ -108,6 +110,11 @@ AreFree table object slot (c ∷ cs) = IsTrue (is_free table object slot) × Are
 -- handles are kept of this class
 abbrev pub is_kept : ℕ → Bool
 is_kept c = (c == 0) || (c == 10) || (c == 30) || (c == 50)
+
+-- and of all of these
+abbrev pub are_kept : List ℕ → Bool
+are_kept [] = true
+are_kept (c ∷ cs) = is_kept c && are_kept cs
 
 -- the handles of a class once the handle of a slot, of class c, is there too
 abbrev pub added : ℕ → ℕ → ℕ → ℕ → List Handle → List Handle
@@ -118,9 +125,9 @@ abbrev pub all_granted : List Slot → ℕ → ℕ → List ℕ → List Slot
 all_granted table object slot [] = table
 all_granted table object slot (c ∷ cs) = all_granted (granted table object slot c) object (slot + 1) cs
 
--- a part that was configured, with the hart at RAM's first byte where it has one
+-- a part that was configured, in the configured mode: the CPU of that mode has the hart, at RAM's first byte
 abbrev pub configured : Config → ℕ → Part → ObjState
-configured c i p = with_arch (Some (reset ram_base)) (built_object c i p)
+configured c i p = cpu_started ram_base c.system_model (built_object c i p)
 
 -- the parts from a number on
 abbrev pub all_configured : Config → ℕ → List Part → List ObjState
@@ -139,5 +146,6 @@ standing c pending objects = record {
   trace = false;
   draining = true;
   wires = wires_of (platform c);
-  router = router_of c;
+  ways = ways_of (platform c);
+  routes = routes_of 0 (platform c);
 }

@@ -1,5 +1,4 @@
 pub mod Shown
-pub mod Router
 pub mod Build
 pub mod Ready
 pub mod Ends

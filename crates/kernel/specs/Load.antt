@@ -1,5 +1,5 @@
 -- A machine that is loaded with an image. This project's own rule.
-use Rattle.std.specs.Prelude.{◌≡◌, ℕ, false, [], map, is_some, if◌then◌else◌, Some}
+use Rattle.std.specs.Prelude.{◌≡◌, ℕ, [], map, is_some, if◌then◌else◌, Some}
 use Rattle.cfg_tree.specs.Valid.{IsValidConfig}
 use Rattle.cfg_tree.specs.declared.config.Config.{Config}
 use Rattle.rv_step.specs.Arch.{reset}
@@ -9,10 +9,9 @@ use Rattle.gm_model.specs.ObjState.{ObjState}
 use Rattle.gm_model.specs.Start.{start_state}
 use Rattle.gm_model.specs.Sys.{Sys}
 
--- the machine of a configuration, in atomic mode, is as it was built: RAM is zero, and the hart stands at RAM's first byte
+-- the machine of a configuration is as it was built: RAM is zero, and the hart stands at RAM's first byte
 pub record IsAsBuilt (c : Config) (s : Sys) : Type 0 where
   pub valid : IsValidConfig c
-  pub mode : c.system_model ≡ false
   pub start : s ≡ start_state c ram_base []
 
 -- the active CPU with its hart reset to begin at an entry; any other part as it is

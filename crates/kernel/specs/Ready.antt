@@ -1,5 +1,5 @@
 -- What one wake, or one packet that is passed on, needs in the middle of an event, and what an event's items need.
-use Rattle.std.specs.Prelude.{◌≡◌, ℕ, ◌+◌, ◌*◌, ◌^◌, ◌<◌, ◌≤◌, List, [], ◌∷◌, length, drop, IfSome}
+use Rattle.std.specs.Prelude.{◌≡◌, ℕ, ◌+◌, ◌*◌, ◌^◌, ◌<◌, ◌≤◌, List, [], ◌∷◌, length, drop}
 use Rattle.gc_base.specs.declared.ids.PortNo.{PortNo}
 use Rattle.gc_base.specs.declared.limits.TheConstants.{LATENCY_MAX, TOP}
 use Rattle.ev_queue.specs.PendingList.{rest}
@@ -7,16 +7,17 @@ use Rattle.ev_queue.specs.declared.due.Due.{Due}
 use Rattle.ev_queue.specs.declared.slot.Slot.{Slot}
 use Rattle.gm_words.specs.Allowed.{MayCome, MayPass}
 use Rattle.gm_words.specs.Platform.{End}
-use Rattle.gm_words.specs.Routes.{destination}
 use Rattle.gm_words.specs.declared.act.Act.TheVariants as acts
 use Rattle.pkt_pool.specs.declared.packet.Packet.{Packet}
 use Rattle.gm_words.specs.declared.wake.Wake.{Wake}
 use Rattle.gm_words.specs.declared.wake.Wake.TheVariants as wakes
-use Rattle.gm_model.specs.Deliver.{Delivery, Item, Sent, deliver, deliver_wake, told_wake, way_latency}
+use Rattle.gm_model.specs.Deliver.{Delivery, Item, Sent, deliver, deliver_wake, passes_max, told_wake, way_latency}
 use Rattle.gm_model.specs.Fire.{event_begun}
 use Rattle.gm_model.specs.ObjState.{object_of}
+use Rattle.gm_model.specs.Ports.{ComesWithin}
 use Rattle.gm_model.specs.Sys.{Sys, object_at, pass_at, step_at}
 use Rattle.gm_system.specs.Machine.{IsDeliverySound}
+use Rattle.gm_system.specs.Ways.{HasWay}
 use Rattle.obj_core.specs.Handles.{HasHandles}
 
 -- the object i is there with its handles, and there is room for what it notes and numbers for what it asks for
@@ -27,11 +28,12 @@ pub record IsReady (d : Delivery) (table : List Slot) (i : ℕ) : Type 0 where
   pub numbers : d.sys.next + 16 < 2 ^ 64
   pub entries : length d.entries + 16 ≤ 528
 
--- and the wake may come to it
+-- and the wake may come to it, by a port that it has
 pub record IsReadyForWake (d : Delivery) (table : List Slot) (i : ℕ) (w : Wake) : Type 0 where
   pub ready : IsReady d table i
   pub number : object_of (object_at d.sys i) ≡ i
   pub wake : MayCome w
+  pub port : ComesWithin (object_at d.sys i) w
 
 -- and the packet may be passed to it
 pub record IsReadyForPacket (d : Delivery) (table : List Slot) (i : ℕ) (p : Packet) : Type 0 where
@@ -40,12 +42,10 @@ pub record IsReadyForPacket (d : Delivery) (table : List Slot) (i : ℕ) (p : Pa
   pub packet : MayPass p
   pub latency : way_latency (pass_at d.sys i p).way ≤ LATENCY_MAX
 
--- a packet may be passed on: it is short, its way takes no longer than it may, and the server of its range, if there is
--- one, is ready for it
-pub record MayGoOn (d : Delivery) (table : List Slot) (p : Packet) : Type 0 where
-  pub size : p.size ≤ 64
-  pub way : d.sys.router.latency ≤ 2 * LATENCY_MAX
-  pub server : IfSome (destination d.sys.routes p.addr) (λ k. IsReadyForPacket d table k p)
+-- a packet may be passed to the part k: from there it has a way to a part that serves it, and each part is ready for it
+pub record MayGoOn (d : Delivery) (table : List Slot) (k : ℕ) (p : Packet) : Type 0 where
+  pub way : HasWay passes_max d.sys k p
+  pub parts : (j : ℕ) → j < length d.sys.objects → IsReadyForPacket d table j p
 
 -- there is room for what one call asks for
 abbrev pub HasItemRoom : Delivery → Type 0
@@ -68,10 +68,9 @@ pub record Delivers (least : ℕ) (d e : Delivery) : Type 0 where
 abbrev pub HasEventsLeft : Sys → Type 0
 HasEventsLeft s = s.counts.events < 2 ^ 54
 
--- the first item is a packet that this sender passes on at once
-pub record IsPassedFirst (items : List Item) (sender : ℕ) (p : Packet) : Type 0 where
-  pub port : PortNo
-  pub first : items ≡ Sent sender (acts.Atomic port p) ∷ drop 1 items
+-- the first item is a packet that this sender passes at once from a port
+abbrev pub IsPassedFirst : List Item → ℕ → PortNo → Packet → Type 0
+IsPassedFirst items sender port p = items ≡ Sent sender (acts.Atomic port p) ∷ drop 1 items
 
 -- an event is under way, and each wake that it causes is allowed
 pub record IsUnderWay (d : Delivery) (table : List Slot) : Type 0 where

@@ -6,8 +6,8 @@ use Rattle.gm_model.specs.Deliver.{Delivery}
 use Rattle.gm_model.specs.ObjState.{ObjState}
 use Rattle.gm_system.specs.Machine.{IsMachineSound}
 use Rattle.cfg_tree.specs.declared.config.Config.{Config}
-use Rattle.gm_words.specs.Platform.{Part, platform, wires_of}
-use Rattle.gm_words.specs.Shown.{part_shown}
+use Rattle.gm_words.specs.Platform.{Part, platform, wires_of, ways_of}
+use Rattle.gm_words.specs.Routes.{routes_of}
 use Rattle.gm_model.specs.Sys.{Sys}
 use Rattle.gm_words.specs.declared.entry.Entry.{Entry}
 use Rattle.kernel.specs.declared.machine.Machine.{Machine}
@@ -24,8 +24,9 @@ sys_of f m = record {
   rebased = m.counters.since;
   trace = m.trace;
   draining = m.draining;
-  wires = wires_of (map part_shown m.platform.items);
-  router = m.router;
+  wires = wires_of m.board;
+  ways = ways_of m.board;
+  routes = routes_of 0 m.board;
 }
 
 -- the machine in the middle of an event: what is still to be delivered, and what was noted, is in the outbox

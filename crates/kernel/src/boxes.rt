@@ -4,8 +4,9 @@ ghost use Rattle.gc_base.specs.declared.limits.TheConstants.{TOP};
 ghost use Rattle.gm_words.specs.Allowed.{IsAllowed, MayCome, MayPass};
 ghost use Rattle.gm_words.specs.Kind.{kind_of_own};
 ghost use Rattle.gm_model.specs.ObjState.{kind_of, IsBlank};
+ghost use Rattle.gm_model.specs.Ports.{ComesWithin};
 ghost use Rattle.gm_model.specs.ObjectStep.{object_step, atomic_step};
-ghost use Rattle.gm_model.specs.Command.{start_of, resume_step, arch_of, with_arch, exit_code, takes_input, with_input, own_bytes, with_own_bytes};
+ghost use Rattle.gm_model.specs.Command.{start_of, resume_step, arch_of, with_arch, with_mode, exit_code, takes_input, with_input, own_bytes, with_own_bytes};
 ghost use Rattle.obj_core.specs.Handles.{AreHandlesOf, HasHandles};
 ghost use Rattle.obj_core.specs.Events.{with_changes};
 ghost use Rattle.obj_core.specs.Out.{HasRoom, extended};
@@ -47,6 +48,7 @@ pub(crate) fn wake_box(
 ) -> Answer
     requires handles { HasHandles q.old.table (state part.old) }
     requires wake { MayCome w }
+    requires port { ComesWithin (state part.old) w }
     requires tick { now ≤ TOP }
     requires room { HasRoom out.old }
     ensures state { state part.new ≡ (object_step (state part.old) out.old.next w now).state }
@@ -93,6 +95,12 @@ pub(crate) fn input_box(part: &mut Box<dyn SimObject>, byte: u8) -> bool
     ensures state { state part.new ≡ with_input byte (state part.old) }
 {
     part.input(byte)
+}
+
+pub(crate) fn set_mode_box(part: &mut Box<dyn SimObject>, timing: bool)
+    ensures { state part.new ≡ with_mode timing (state part.old) }
+{
+    part.set_mode(timing);
 }
 
 pub(crate) fn give_arch_box(part: &mut Box<dyn SimObject>, a: Arch)

@@ -1,28 +1,27 @@
 // How a machine is built: its parts are configured, each with its handles.
-ghost use Rattle.std.specs.Prelude.{◌≡◌, ◌^◌, ◌<◌, [], length, map, true, IsTrue, Some, None, IfOk, OnOk, IfErr, false};
+ghost use Rattle.std.specs.Prelude.{◌≡◌, ◌≤◌, [], length, map, true, IsTrue, Some, None, IfOk, OnOk, IfErr, false};
 ghost use Rattle.ev_queue.specs.SlotTable.{is_free, granted, all_slots};
-ghost use Rattle.rv_step.specs.Arch.{reset};
 ghost use Rattle.rv_step.specs.FlatMem.{ram_base};
 ghost use Rattle.gm_words.specs.Allowed.{IsAllowed};
 ghost use Rattle.cfg_tree.specs.Valid.{IsValidConfig};
-ghost use Rattle.gm_model.specs.Command.{start_of, with_arch};
+ghost use Rattle.gm_model.specs.Command.{start_of};
 ghost use Rattle.gm_words.specs.Kind.{kind_of_own};
-ghost use Rattle.gm_model.specs.Start.{params_of, start_state};
-ghost use Rattle.gm_words.specs.Platform.{platform, slot_classes};
+ghost use Rattle.gm_model.specs.Start.{params_of, start_state, is_cpu_of, cpu_started};
+ghost use Rattle.gm_words.specs.Platform.{platform, own_classes};
 ghost use Rattle.gm_words.specs.Shown.{part_shown};
 ghost use Rattle.gm_words.specs.Slots.{given_table};
 ghost use Rattle.obj_core.specs.Handles.{AreHandlesOf};
-ghost use Rattle.kernel.specs.Build.{IsPart, AreBlank, AreDrawn, AreEnough, AreFree, is_kept, added, all_granted, all_configured, slot_counts, lacking, NamesLack, standing};
+ghost use Rattle.kernel.specs.Build.{IsPart, AreBlank, AreDrawn, AreEnough, AreFew, AreFree, are_kept, is_kept, added, all_granted, all_configured, slot_counts, lacking, NamesLack, standing};
 
-use crate::boxes::{configure_box, give_arch_box};
+use crate::board::Board;
+use crate::boxes::{configure_box, give_arch_box, kind_of_box, set_mode_box};
 use crate::build_fault::BuildFault;
 use crate::draw::{draw, first_lacking};
 use crate::machine::Machine;
-use crate::router::Router;
 use ev_queue::{EventHandle, EventQueue};
 use gc_base::{NoMemory, ObjId, SlotNo};
 use gm_model::platform::{self, Part, RAM_BASE};
-use gm_model::{Config, Own, Params};
+use gm_model::{Config, Kind, Own, Params};
 use obj_core::{Handles, Outbox, SimObject};
 use probe_stats::Counters;
 use rv_step::Arch;
@@ -96,13 +95,15 @@ fn add_handle(
 
 /// The handles of all slots of a part.
 fn all_handles(alloc: Global, queue: &mut EventQueue, params: &Params) -> Result<Handles, NoMemory>
-    requires { AreFree queue.old.table params.now.object.0 0 (slot_classes (kind_of_own params.now.own)) }
+    requires free { AreFree queue.old.table params.now.object.0 0 (own_classes params.now.own) }
+    requires kept { IsTrue (are_kept (own_classes params.now.own)) }
+    requires few { length (own_classes params.now.own) ≤ 255 }
     ensures handles { IfOk result (AreHandlesOf params.now) }
     ensures queue { OnOk result (queue.new ≡ record queue.old {
-      table = all_granted queue.old.table params.now.object.0 0 (slot_classes (kind_of_own params.now.own));
+      table = all_granted queue.old.table params.now.object.0 0 (own_classes params.now.own);
     }) }
 {
-    let classes = params.own.slots();
+    let classes = params.own.classes(alloc)?;
     let mut handles = no_handles(alloc);
     for slot in 0..classes.len() {
         add_handle(
@@ -116,7 +117,7 @@ fn all_handles(alloc: Global, queue: &mut EventQueue, params: &Params) -> Result
     Ok(handles)
 }
 
-/// Configures a part, and gives it the hart, which begins at RAM, where it can have one.
+/// Configures a part in the mode of the machine, and gives it the hart, which begins at RAM, where it is that mode's CPU.
 fn configure_part(
     alloc: Global,
     c: &Config,
@@ -128,18 +129,41 @@ fn configure_part(
     requires valid { IsValidConfig c.now }
     requires allowed { IsAllowed (params_of c.now object.0 own) }
     requires part { IsPart (kind_of_own own) (state part.old) }
-    requires free { AreFree queue.old.table object.0 0 (slot_classes (kind_of_own own)) }
+    requires free { AreFree queue.old.table object.0 0 (own_classes own) }
+    requires kept { IsTrue (are_kept (own_classes own)) }
+    requires few { length (own_classes own) ≤ 255 }
     ensures part { OnOk result (state part.new
-        ≡ with_arch (Some (reset ram_base)) (start_of (params_of c.now object.0 own) own)) }
+        ≡ cpu_started ram_base c.now.system_model (start_of (params_of c.now object.0 own) own)) }
     ensures queue { OnOk result (queue.new ≡ record queue.old {
-      table = all_granted queue.old.table object.0 0 (slot_classes (kind_of_own own));
+      table = all_granted queue.old.table object.0 0 (own_classes own);
     }) }
 {
     let params = params(c, object, own);
     let handles = all_handles(alloc, queue, &params)?;
     configure_box(part, alloc, &params, handles)?;
-    give_arch_box(part, Arch::reset(RAM_BASE));
+    start_part(part, c.system_model);
     Ok(())
+}
+
+/// Sets a part's mode, and gives it the hart, which begins at RAM, where it is the CPU of the mode.
+fn start_part(part: &mut Box<dyn SimObject>, timing: bool)
+    ensures { state part.new ≡ cpu_started ram_base timing (state part.old) }
+{
+    if is_cpu_of(timing, kind_of_box(part)) {
+        give_arch_box(part, Arch::reset(RAM_BASE));
+    }
+    set_mode_box(part, timing);
+}
+
+/// Whether a part of a kind is the CPU of the mode.
+fn is_cpu_of(timing: bool, kind: Kind) -> bool
+    ensures { result ≡ is_cpu_of timing kind }
+{
+    match kind {
+        Kind::AtomicCpu => !timing,
+        Kind::TimingCpu => timing,
+        _ => false,
+    }
 }
 
 /// Configures the parts, each by its row.
@@ -163,20 +187,15 @@ fn configure_parts(
     Ok(())
 }
 
-/// How many slots a part has.
-fn slot_count(own: &Own) -> u8
-    ensures { result ≡ length (slot_classes (kind_of_own own.now)) }
-{
-    own.slots().len() as u8
-}
-
 /// How many slots each row's part has.
 fn counts(alloc: Global, rows: &[Part]) -> Result<Vec<u8>, NoMemory>
+    requires { AreFew (map part_shown rows.now) }
     ensures { IfOk result (λ v. v.items ≡ slot_counts (map part_shown rows.now)) }
 {
     let mut counts = Vec::new(alloc);
     for i in 0..rows.len() {
-        counts.push(slot_count(&rows[i].own))?;
+        let classes = rows[i].own.classes(alloc)?;
+        counts.push(classes.len() as u8)?;
     }
     Ok(counts)
 }
@@ -249,15 +268,14 @@ impl Machine {
         ensures named { IfOk result (λ m. named_of m ≡ named_by c.now) }
     {
         let counters = Counters::new(alloc, c)?;
-        let router = Router::new(alloc, c, rows.as_slice())?;
+        let board = Board::new(rows);
         let tick = counters.since();
         Ok(Machine {
-            platform: rows,
+            board,
             parts,
             queue,
             out: Outbox::new(alloc)?,
             counters,
-            router,
             tick,
             trace: false,
             draining: true,

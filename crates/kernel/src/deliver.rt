@@ -1,40 +1,21 @@
 // One item at a time: a packet is passed on, its sender is told, or a part is woken.
-ghost use Rattle.std.specs.Prelude.{◌≡◌, ℕ, ◌+◌, ◌*◌, ◌≤◌, ◌<◌, List, [], ◌∷◌, length, Option, Some, None, IfSome};
+ghost use Rattle.std.specs.Prelude.{◌≡◌, ℕ, ◌≤◌, [], length, IfSome};
 ghost use Rattle.std.specs.Bool.{OnTrue, OnFalse};
 ghost use Rattle.std.specs.Option.{option_map};
 ghost use Rattle.gc_base.specs.declared.limits.TheConstants.{LATENCY_MAX};
-ghost use Rattle.gm_model.specs.Deliver.{deliver_wake, deliver_passed, done_at, deliver_atomic, deliver_line, deliver_offer, told_wake, way_latency};
-ghost use Rattle.pkt_pool.specs.Packet.{fault_response};
-ghost use Rattle.gm_words.specs.Routes.{destination};
+ghost use Rattle.gm_model.specs.Deliver.{deliver_wake, deliver_passed, done_at, deliver_atomic, deliver_line, deliver_offer, passes_max, told_wake, way_latency};
 ghost use Rattle.gm_model.specs.Sys.{active_cpu, pass_at, peer_in, step_at};
 ghost use Rattle.gm_words.specs.declared.wake.Wake.TheVariants.{Line, AtomicDone};
 ghost use Rattle.kernel.specs.Ready.{IsReadyForWake, IsReadyForPacket, MayGoOn, HasItemRoom, IsPassedFirst, IsUnderWay, Delivers, MayOffer};
 
 use crate::boxes::{arch_box, pass_box, wake_box};
 use crate::machine::Machine;
-use crate::wiring::peer;
 use gc_base::{ObjId, PortNo};
 use gm_model::{Act, Answer, Packet, Wake, Way};
 use obj_core::Item;
 
-/// The latency of a way, in ticks.
-fn way_latency(way: Way) -> u64
-    ensures { result ≡ way_latency way }
-{
-    match way {
-        Way::Pass { latency, .. } | Way::Done { latency } => latency,
-    }
-}
-
-/// Refuses a packet of no range. It is kept apart from the packets that are served, which are passed on as they lie.
-#[cold]
-#[inline(never)]
-fn refuse(packet: &mut Packet)
-    requires { packet.old.size ≤ 64 }
-    ensures { packet.new ≡ fault_response packet.old packet.old.cmd }
-{
-    packet.refuse();
-}
+/// How many parts a packet is passed through at most.
+const PASSES_MAX: u32 = 8;
 
 /// What is told to who offered: any other answer than a refusal is taken for one that took the packet.
 fn told(answer: Answer, port: PortNo) -> Wake
@@ -81,12 +62,12 @@ impl Machine {
             Some(
                 Item::Sent {
                     sender,
-                    act: Act::Atomic { pkt, .. },
+                    act: Act::Atomic { port, pkt },
                 },
             ) => {
-                let sender = *sender;
+                let (sender, port) = (*sender, *port);
                 let packet = *pkt;
-                self.pass_on(sender, packet);
+                self.pass_on(sender, port, packet);
             }
             _ => self.deliver_any(),
         }
@@ -105,12 +86,12 @@ impl Machine {
             Some(
                 Item::Sent {
                     sender,
-                    act: Act::Atomic { pkt, .. },
+                    act: Act::Atomic { port, pkt },
                 },
             ) => {
-                let sender = *sender;
+                let (sender, port) = (*sender, *port);
                 let packet = *pkt;
-                self.pass_on(sender, packet);
+                self.pass_on(sender, port, packet);
             }
             Some(
                 Item::Sent {
@@ -138,7 +119,7 @@ impl Machine {
                     act: Act::CallRetry { port },
                 },
             ) => {
-                let called = peer(self.platform.as_slice(), *sender, *port);
+                let called = self.board.peer(*sender, *port);
                 self.out.drop_first();
                 self.wake(called.part, Wake::Retry { port: called.port });
             }
@@ -160,17 +141,18 @@ impl Machine {
         }
     }
 
-    /// Passes the first item on, which is this packet of a sender that waits for it, and tells the sender.
+    /// Passes the first item on, which is this packet that a sender passes from a port and waits for, and tells the sender.
     #[inline(always)]
-    fn pass_on(&mut self, sender: ObjId, mut packet: Packet)
+    fn pass_on(&mut self, sender: ObjId, port: PortNo, mut packet: Packet)
         requires under_way { IsUnderWay (delivery_of state self.old) self.old.queue.table }
-        requires first { IsPassedFirst self.old.out.items sender.0 packet }
+        requires first { IsPassedFirst self.old.out.items sender.0 port packet }
         ensures delivered { Delivers 1 (delivery_of state self.old) (delivery_of state self.new) }
         ensures table { self.new.queue.table ≡ self.old.queue.table }
         ensures counters { self.new.counters ≡ self.old.counters }
     {
         self.out.drop_first();
-        let latency = self.pass(&mut packet);
+        let first = self.board.way(sender, port);
+        let latency = self.pass(first.part, &mut packet);
         self.answer(sender, packet, latency);
     }
 
@@ -226,7 +208,7 @@ impl Machine {
         ensures table { self.new.queue.table ≡ self.old.queue.table }
         ensures counters { self.new.counters ≡ self.old.counters }
     {
-        let shown = peer(self.platform.as_slice(), sender, port);
+        let shown = self.board.peer(sender, port);
         let answer = self.wake(
             shown.part,
             Wake::Offer {
@@ -266,47 +248,49 @@ impl Machine {
         None
     }
 
-    /// Passes a packet to the server of its range, which makes it the response, and gives the latency in ticks.
+    /// Passes a packet from part to part until one serves it, which makes it the response, and gives how long that took, in ticks.
     #[inline(always)]
-    fn pass(&mut self, packet: &mut Packet) -> u64
+    fn pass(&mut self, first: ObjId, packet: &mut Packet) -> u64
         requires room { HasItemRoom (delivery_of state self.old) }
-        requires allowed { MayGoOn (delivery_of state self.old) self.old.queue.table packet.old }
+        requires allowed { MayGoOn (delivery_of state self.old) self.old.queue.table first.0 packet.old }
         ensures delivered { (sender : ℕ) → done_at (delivery_of state self.new) sender packet.new result
-            ≡ deliver_atomic (delivery_of state self.old) sender packet.old
-            (destination (sys_of state self.old).routes packet.old.addr) }
+            ≡ deliver_atomic passes_max (delivery_of state self.old) sender first.0 packet.old 0 }
         ensures table { self.new.queue.table ≡ self.old.queue.table }
         ensures counters { self.new.counters ≡ self.old.counters }
     {
-        let way = self.router.latency();
-        match self.router.destination(packet.addr) {
-            Some(server) => way + self.pass_to(server, packet),
-            None => {
-                refuse(packet);
-                way
+        let mut part = first;
+        let mut before = 0;
+        'parts: for _n in 0..PASSES_MAX {
+            match self.pass_to(part, packet) {
+                Way::Done { latency } => return before + latency,
+                Way::Pass { port, latency } => {
+                    part = self.board.peer(part, port).part;
+                    before += latency;
+                }
             }
         }
+        unreachable!()
     }
 
-    /// Passes a packet to a server, and gives the server's latency in ticks.
+    /// Passes a packet to a part, and gives what became of it there.
     #[inline(always)]
-    fn pass_to(&mut self, server: ObjId, packet: &mut Packet) -> u64
+    fn pass_to(&mut self, part: ObjId, packet: &mut Packet) -> Way
         requires room { HasItemRoom (delivery_of state self.old) }
-        requires ready { IsReadyForPacket (delivery_of state self.old) self.old.queue.table server.0 packet.old }
-        ensures passed { delivery_of state self.new ≡ deliver_passed (delivery_of state self.old) server.0 packet.old }
-        ensures packet { packet.new ≡ (pass_at (sys_of state self.old) server.0 packet.old).packet }
-        ensures latency { result ≡ way_latency (pass_at (sys_of state self.old) server.0 packet.old).way }
-        ensures most { result ≤ LATENCY_MAX }
+        requires ready { IsReadyForPacket (delivery_of state self.old) self.old.queue.table part.0 packet.old }
+        ensures passed { delivery_of state self.new ≡ deliver_passed (delivery_of state self.old) part.0 packet.old }
+        ensures packet { packet.new ≡ (pass_at (sys_of state self.old) part.0 packet.old).packet }
+        ensures way { result ≡ (pass_at (sys_of state self.old) part.0 packet.old).way }
+        ensures most { way_latency result ≤ LATENCY_MAX }
         ensures table { self.new.queue.table ≡ self.old.queue.table }
         ensures counters { self.new.counters ≡ self.old.counters }
     {
-        self.out.for_sender(server);
-        let way = pass_box(
-            &mut self.parts[server.0 as usize],
+        self.out.for_sender(part);
+        pass_box(
+            &mut self.parts[part.0 as usize],
             packet,
             self.tick,
             &mut self.queue,
             &mut self.out,
-        );
-        way_latency(way)
+        )
     }
 }

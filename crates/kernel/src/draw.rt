@@ -75,7 +75,6 @@ fn asks(c: &Config, kind: Kind) -> bool
     ensures { result ≡ asks_more c.now kind }
 {
     match kind {
-        Kind::TimingCpu => c.system_model,
         Kind::Cache => !c.caches.items().is_empty(),
         Kind::Dma => c.dma.is_some(),
         _ => false,

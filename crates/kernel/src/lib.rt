@@ -2,10 +2,12 @@
 //!
 //! Its promise: whatever parts it holds, each call of `Machine` is the definition of the plain model over the states that
 //! the parts show, and what its events note is replayed over flat memory. Read `specs/Shown.antt` first, and then
-//! `src/serve.rt`, where `fire`, `deliver` and `run` stand together. A packet is routed here by its address, with the
-//! latencies of both crossbars; crossbars as parts of their own, drain and checkpoints come later.
+//! `src/serve.rt`, where `fire`, `deliver` and `run` stand together. In atomic mode a packet is passed from part to part, in
+//! timing mode it is offered from port to port; both are items of one list, which are delivered in order. Drain and
+//! checkpoints come later.
 #![tactic(auto)]
 
+mod board;
 mod boxes;
 mod build;
 mod build_fault;
@@ -16,10 +18,8 @@ mod input;
 mod load;
 mod machine;
 mod reason;
-mod router;
 mod run_end;
 mod serve;
-mod wiring;
 mod write;
 
 pub use build_fault::BuildFault;

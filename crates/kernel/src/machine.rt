@@ -1,12 +1,12 @@
 // The machine, and what it tells between two events.
 ghost use Rattle.std.specs.Prelude.{◌≡◌, ◌+◌, ◌-◌, ◌≤◌, true, [], length, take, drop, map};
 
+use crate::board::Board;
 use crate::boxes::{arch_box, exit_box, read_box, resume_box, write_box};
-use crate::router::Router;
 use ev_queue::EventQueue;
 use gc_base::Tick;
 use gm_model::Entry;
-use gm_model::platform::{Part, RAM_BASE};
+use gm_model::platform::RAM_BASE;
 use obj_core::{Outbox, SimObject};
 use probe_stats::Counters;
 use rv_step::Arch;
@@ -17,13 +17,12 @@ use rv_step::Arch;
 /// - Between two calls each wake that may come is allowed (`IsMachine`).
 #[derive(Drop)]
 pub struct Machine {
-    /// What each part is, where packets for it go, and which ports it is wired to.
-    pub(crate) platform: Vec<Part>,
+    /// What each part is, and where its ports lead.
+    pub(crate) board: Board,
     pub(crate) parts: Vec<Box<dyn SimObject>>,
     pub(crate) queue: EventQueue,
     pub(crate) out: Outbox,
     pub(crate) counters: Counters,
-    pub(crate) router: Router,
     pub(crate) tick: Tick,
     /// Whether events are traced.
     pub(crate) trace: bool,
@@ -95,7 +94,7 @@ impl Machine {
     pub fn exited(&self) -> Option<u32>
         ensures { result ≡ exit_of (sys_of state self.now) }
     {
-        let exit = self.router.exit()?.0 as usize;
+        let exit = self.board.exit()?.0 as usize;
         if exit < self.parts.len() {
             exit_box(&self.parts[exit])
         } else {

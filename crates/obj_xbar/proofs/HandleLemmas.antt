@@ -10,7 +10,7 @@ use Rattle.gm_words.specs.declared.port_use.PortUse.{PortUse}
 use Rattle.obj_core.specs.Handles.{handles_from}
 
 -- so many handles, of slots one after another
-run : ℕ → ℕ → ℕ → List Handle
+abbrev run : ℕ → ℕ → ℕ → List Handle
 run o s zero = []
 run o s (suc n) = record { owner = o; slot = s } ∷ run o (s + 1) n
 

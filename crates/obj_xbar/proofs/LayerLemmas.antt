@@ -50,12 +50,12 @@ all_taken (uses.Destination first last) a h = by (cases first last h) where
     both true false g i j = absurd (cc)
     both false y g i j = absurd (cc)
 
-  by : (first ≡ 0) × (last ≡ last_address) → (nat_le first a && (nat_le a last || (last == last_address))) ≡ true
-  by e = rw e.0 rw e.1 (ends (nat_le a last_address))
-
   ends : (b : Bool) → (b || true) ≡ true
   ends true = refl
   ends false = refl
+
+  by : (first ≡ 0) × (last ≡ last_address) → (nat_le first a && (nat_le a last || (last == last_address))) ≡ true
+  by e = rw e.0 rw e.1 (ends (nat_le a last_address))
 all_taken uses.Unused a h = absurd (cc)
 
 -- where no address is left without a port, each goes to one

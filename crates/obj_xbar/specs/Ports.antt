@@ -11,7 +11,7 @@ pub record Ports : Type 0 where
   pub uses : List PortUse
 
 -- there are few ports, and these are the handles of their layers
-pub record AreKept (object : ℕ) (uses : List PortUse) (response request : List Handle) : Type 0 where
+pub record AreKept (object : ℕ) (uses : List PortUse) (responses requests : List Handle) : Type 0 where
   pub few : length uses ≤ 8
-  pub response : response ≡ handles_from object 0 0 (xbar_classes uses)
-  pub request : request ≡ handles_from object 10 0 (xbar_classes uses)
+  pub response : responses ≡ handles_from object 0 0 (xbar_classes uses)
+  pub request : requests ≡ handles_from object 10 0 (xbar_classes uses)

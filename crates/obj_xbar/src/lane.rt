@@ -1,5 +1,5 @@
 // A layer of a crossbar: one packet, and who waits for its place.
-ghost use Rattle.std.specs.Prelude.{◌≡◌, ◌<◌, ◌≤◌, ◌-◌, ◌==◌, [], length, IsTrue, IfOk, IfSome, is_some, option_copied};
+ghost use Rattle.std.specs.Prelude.{◌≡◌, ◌<◌, ◌≤◌, ◌-◌, ◌==◌, [], length, IsTrue, IfOk, IfSome, is_some, option_copied, true};
 ghost use Rattle.ev_queue.specs.SlotTable.{gave};
 ghost use Rattle.gm_words.specs.Allowed.{MayPass};
 ghost use Rattle.gm_words.specs.Changes.{changed};

@@ -10,9 +10,9 @@ ghost use Rattle.gm_words.specs.declared.wake.Wake.TheVariants as wakes;
 ghost use Rattle.gm_words.specs.declared.answer.Answer.TheVariants.{Refused};
 ghost use Rattle.gm_model.specs.Flows.{refusal_of};
 ghost use Rattle.gm_model.specs.ObjState.{Xbar};
+ghost use Rattle.gm_model.specs.Ports.{ComesWithin};
 ghost use Rattle.gm_model.specs.Xbar.{xbar_start, xbar_step, xbar_offer, xbar_atomic, xbar_functional, is_xbar_drained, are_idle};
 ghost use Rattle.obj_core.specs.Handles.{handles_from};
-ghost use Rattle.obj_core.specs.May.{MayWakeXbar, HasPlace};
 ghost use Rattle.obj_core.specs.Out.{HasRoom, extended};
 ghost use Rattle.obj_core.specs.Step.{Takes, Answers};
 
@@ -103,7 +103,7 @@ impl Layers {
         out: &mut Outbox,
     ) -> Answer
         requires wake { MayCome w.now }
-        requires ports { MayWakeXbar (xbar_state self.old) w.now }
+        requires port { ComesWithin (Xbar (xbar_state self.old)) w.now }
         requires tick { now ≤ TOP }
         requires room { HasRoom out.old }
         requires handles { IsTrue (gave_from q.old.table self.old.ports.object 0 (xbar_classes self.old.ports.uses)) }
@@ -133,7 +133,6 @@ impl Layers {
     ) -> Answer
         requires size { MayPass p.now }
         requires port { port.0 < length self.old.ports.uses }
-        requires place { HasPlace p.now (is_response p.now.cmd) }
         requires tick { now ≤ TOP }
         requires room { HasRoom out.old }
         requires handles { IsTrue (gave_from q.old.table self.old.ports.object 0 (xbar_classes self.old.ports.uses)) }
@@ -162,7 +161,6 @@ impl Layers {
         requires to { to < length self.old.ports.uses }
         requires size { MayPass p.now }
         requires port { port.0 < length self.old.ports.uses }
-        requires place { HasPlace p.now (is_response p.now.cmd) }
         requires tick { now ≤ TOP }
         requires room { HasRoom out.old }
         requires handles { IsTrue (gave_from q.old.table self.old.ports.object 0 (xbar_classes self.old.ports.uses)) }
@@ -192,7 +190,6 @@ impl Layers {
         requires sided { IsFalse (is_total self.old.ports.uses) }
         requires size { MayPass p.now }
         requires port { port.0 < length self.old.ports.uses }
-        requires place { HasPlace p.now (is_response p.now.cmd) }
         requires tick { now ≤ TOP }
         requires room { HasRoom out.old }
         requires handles { IsTrue (gave_from q.old.table self.old.ports.object 0 (xbar_classes self.old.ports.uses)) }

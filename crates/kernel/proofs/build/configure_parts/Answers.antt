@@ -1,19 +1,18 @@
-use Rattle.std.proofs.Common.{arith, sym, ap, subst, ◌∙◌, Some, List}
+use Rattle.std.proofs.Common.{arith, sym, ap, subst, ◌∙◌, ◌≤◌, IsTrue, List, length}
 use Rattle.ev_queue.specs.Queue.{Queue}
 use Rattle.ev_queue.specs.declared.slot.Slot.{Slot}
-use Rattle.rv_step.specs.Arch.{reset}
 use Rattle.rv_step.specs.FlatMem.{ram_base}
 use Rattle.gm_words.specs.Allowed.{IsAllowed}
 use Rattle.gm_words.specs.Kind.{kind_of_own}
-use Rattle.gm_words.specs.Platform.{platform, slot_classes}
+use Rattle.gm_words.specs.Platform.{platform, own_classes}
 use Rattle.gm_words.specs.Shown.{part_shown}
 use Rattle.gm_words.specs.declared.platform.Part.{Part as KeptPart}
-use Rattle.gm_model.specs.Command.{start_of, with_arch}
-use Rattle.gm_model.specs.Start.{params_of}
-use Rattle.kernel.specs.Build.{IsPart, AreFree, all_granted}
+use Rattle.gm_model.specs.Command.{start_of}
+use Rattle.gm_model.specs.Start.{params_of, cpu_started}
+use Rattle.kernel.specs.Build.{IsPart, AreFree, all_granted, are_kept}
 use Rattle.kernel.proofs.Draws.{box_part, box_done, boxes_length, all_done, row_allowed}
 use Rattle.kernel.proofs.Rows.{row_of, rows_length}
-use Rattle.kernel.proofs.Tables.{place_free, place_given}
+use Rattle.kernel.proofs.Tables.{place_free, place_given, classes_kept, few_at, few_classes}
 use Rattle.kernel.proofs.build.configure_parts.Goals as goal
 
 pub index_mut-requires : goal.index_mut-requires
@@ -38,8 +37,20 @@ pub configure_part-requires-clause-free : goal.configure_part-requires-clause-fr
 configure_part-requires-clause-free g c =
     let x = c.index-rows-i.result in
     let at = row_of c.args.rows.now (platform c.args.c.now) c.loop-i.i x c.requires.rows c.loop-i-test.true c.index-rows-i.is in
-    subst (λ (y : KeptPart). AreFree c.loop-i.queue.table c.loop-i.i 0 (slot_classes (kind_of_own y.own))) c.index-rows-i.is
-    (subst (λ (t : List Slot). AreFree t c.loop-i.i 0 (slot_classes (kind_of_own x.own))) (sym c.loop-i.invariant.table) (place_free c.loop-i.i (platform c.args.c.now) (part_shown x) at.0 at.1))
+    subst (λ (y : KeptPart). AreFree c.loop-i.queue.table c.loop-i.i 0 (own_classes y.own)) c.index-rows-i.is
+    (subst (λ (t : List Slot). AreFree t c.loop-i.i 0 (own_classes x.own)) (sym c.loop-i.invariant.table) (place_free c.loop-i.i (platform c.args.c.now) (part_shown x) at.0 at.1))
+
+pub configure_part-requires-clause-kept : goal.configure_part-requires-clause-kept
+configure_part-requires-clause-kept g c =
+    let x = c.index-rows-i.result in
+    let at = row_of c.args.rows.now (platform c.args.c.now) c.loop-i.i x c.requires.rows c.loop-i-test.true c.index-rows-i.is in
+    subst (λ (y : KeptPart). IsTrue (are_kept (own_classes y.own))) c.index-rows-i.is (classes_kept c.args.c.now c.loop-i.i (part_shown x) at.0 at.1)
+
+pub configure_part-requires-clause-few : goal.configure_part-requires-clause-few
+configure_part-requires-clause-few g c =
+    let x = c.index-rows-i.result in
+    let at = row_of c.args.rows.now (platform c.args.c.now) c.loop-i.i x c.requires.rows c.loop-i-test.true c.index-rows-i.is in
+    subst (λ (y : KeptPart). length (own_classes y.own) ≤ 255) c.index-rows-i.is (few_at (platform c.args.c.now) c.loop-i.i (part_shown x) (few_classes c.args.c.now) at.0 at.1)
 
 pub loop-i-preserved : goal.loop-i-preserved
 loop-i-preserved g c =
@@ -51,10 +62,10 @@ loop-i-preserved g c =
       rows = i.rows;
       parts = box_done (λ b. (goal.SimObject-dyn g (b.vtable, b.value)).state b.value) c.args.c.now (platform c.args.c.now) c.loop-i.parts.items c.loop-i.i (part_shown x) c.index_mut.result.now at.0 at.1 c.index_mut.ensures.value i.parts
           c.configure_part.new.part
-          (done.part ∙ ap (λ (y : KeptPart). with_arch (Some (reset ram_base)) (start_of (params_of c.args.c.now c.loop-i.i y.own) y.own)) (sym c.index-rows-i.is));
+          (done.part ∙ ap (λ (y : KeptPart). cpu_started ram_base c.args.c.now.system_model (start_of (params_of c.args.c.now c.loop-i.i y.own) y.own)) (sym c.index-rows-i.is));
       table = ap (λ (q : Queue). q.table) done.queue
-          ∙ (ap (λ (y : KeptPart). all_granted c.loop-i.queue.table c.loop-i.i 0 (slot_classes (kind_of_own y.own))) (sym c.index-rows-i.is)
-          ∙ (ap (λ (t : List Slot). all_granted t c.loop-i.i 0 (slot_classes (kind_of_own x.own))) i.table
+          ∙ (ap (λ (y : KeptPart). all_granted c.loop-i.queue.table c.loop-i.i 0 (own_classes y.own)) (sym c.index-rows-i.is)
+          ∙ (ap (λ (t : List Slot). all_granted t c.loop-i.i 0 (own_classes x.own)) i.table
           ∙ place_given c.loop-i.i (platform c.args.c.now) (part_shown x) at.0 at.1));
       pending = ap (λ (q : Queue). q.pending) done.queue ∙ i.pending;
     }

@@ -1,7 +1,4 @@
-use Rattle.std.proofs.Common.{◌≡◌, ap, map, ◌∙◌}
-use Rattle.gm_words.specs.Platform.{wires_of}
-use Rattle.gm_words.specs.Shown.{end_shown, part_shown}
-use Rattle.gm_model.specs.Sys.{peer_in}
+use Rattle.gm_words.specs.Shown.{end_shown}
 use Rattle.kernel.proofs.Delivered.{called_ready, called_delivered, sent_first, done_first, rest_room, first_delivered, none_delivered}
 use Rattle.kernel.proofs.UnderWay.{line_ready, done_ready, offer_ready, call_ready, few_parts}
 use Rattle.kernel.proofs.machine.Machine.deliver_any.Goals as goal
@@ -73,25 +70,20 @@ pub wake-requires-clause-ready : goal.wake-requires-clause-ready
 wake-requires-clause-ready g c =
     let a = c.in-Some-Sent-default-CallRetry in
     let e = sent_first _ a.field-0.now a.sender a.field-0-1 _ a.ensures.some a.field-0-is a.field-0-1-is in
-    let same : end_shown c.peer-called.result ≡ peer_in (wires_of (map part_shown c.args.self.now.platform.items)) a.sender.0 a.port.0 =
-    c.peer-called.ensures ∙ ap (λ ps. peer_in (wires_of (map part_shown ps)) a.sender.0 a.port.0) c.as_slice.ensures.value in
+    let same = c.peer-called.ensures in
     rw c.drop_first-in-Some-Sent-default-CallRetry.ensures (called_ready _ _ (end_shown c.peer-called.result) _ same (call_ready _ _ a.sender.0 a.port _ e c.requires))
 
 pub returns-in-Some-Sent-default-CallRetry-clause-delivered : goal.returns-in-Some-Sent-default-CallRetry-clause-delivered
 returns-in-Some-Sent-default-CallRetry-clause-delivered g c =
     let a = c.in-Some-Sent-default-CallRetry in
     let e = sent_first _ a.field-0.now a.sender a.field-0-1 _ a.ensures.some a.field-0-is a.field-0-1-is in
-    let same : end_shown c.peer-called.result ≡ peer_in (wires_of (map part_shown c.args.self.now.platform.items)) a.sender.0 a.port.0 =
-    c.peer-called.ensures ∙ ap (λ ps. peer_in (wires_of (map part_shown ps)) a.sender.0 a.port.0) c.as_slice.ensures.value in
+    let same = c.peer-called.ensures in
     first_delivered _ _ _ _ e (called_delivered _ _ (end_shown c.peer-called.result) _ same (rw c.drop_first-in-Some-Sent-default-CallRetry.ensures at c.wake.ensures.delivered))
 
 pub pass_on-requires-clause-first : goal.pass_on-requires-clause-first
 pass_on-requires-clause-first g c =
     let a = c.in-Some-Sent-default-Atomic in
-    record {
-      port = _;
-      first = sent_first _ a.field-0.now a.sender a.field-0-1 _ a.ensures.some a.field-0-is a.field-0-1-is;
-    }
+    sent_first _ a.field-0.now a.sender a.field-0-1 _ a.ensures.some a.field-0-is a.field-0-1-is
 
 pub returns-in-None-clause-delivered : goal.returns-in-None-clause-delivered
 returns-in-None-clause-delivered g c = none_delivered _ c.in-None.ensures.none

@@ -10,12 +10,11 @@ invariant-loop-i g l = record {
   done : commanded_from (enter_command l.entry) l.i (map (λ b. (goal.SimObject-dyn g (b.vtable, b.value)).state b.value) l.self.parts.items)
       ≡ map (λ o. (enter_command l.entry o).state) (map (λ b. (goal.SimObject-dyn g (b.vtable, b.value)).state b.value) l.initial.self.parts.items);
   len : vec_len l.self.parts ≡ vec_len l.initial.self.parts;
-  platform : l.self.platform ≡ l.initial.self.platform;
+  board : l.self.board ≡ l.initial.self.board;
   queue : l.self.queue ≡ l.initial.self.queue;
   tick : l.self.tick ≡ l.initial.self.tick;
   out : l.self.out ≡ l.initial.self.out;
   counters : l.self.counters ≡ l.initial.self.counters;
-  router : l.self.router ≡ l.initial.self.router;
   trace : l.self.trace ≡ l.initial.self.trace;
   draining : l.self.draining ≡ l.initial.self.draining;
 }

@@ -1,7 +1,7 @@
 use Rattle.std.proofs.Common.{arith, refl, ap, map}
 use Rattle.std.proofs.lemmas.List.{length-map}
-use Rattle.gm_words.specs.Platform.{wires_of}
-use Rattle.gm_words.specs.Shown.{part_shown}
+use Rattle.gm_words.specs.Platform.{wires_of, ways_of}
+use Rattle.gm_words.specs.Routes.{routes_of}
 use Rattle.obj_core.specs.Out.{Out}
 use Rattle.probe_stats.specs.Counted.{Counted}
 use Rattle.ev_queue.specs.Queue.{Queue}
@@ -15,12 +15,11 @@ loop-i-init g c = record {
   done = from_start (input_command c.args.byte) _;
   taken = refl;
   len = refl;
-  platform = refl;
+  board = refl;
   queue = refl;
   tick = refl;
   out = refl;
   counters = refl;
-  router = refl;
   trace = refl;
   draining = refl;
 }
@@ -39,12 +38,11 @@ loop-i-preserved g c =
           (next_untouched _ (input_command c.args.byte) _ v.items c.loop-i.i c.index_mut.result.now c.input_box-took.new.part
           (omega (arith, v.ok.0, i.len, c.len-i-end.ensures, c.loop-i-test.true)) c.index_mut.ensures.value i.rest) i.taken;
       len = i.len;
-      platform = i.platform;
+      board = i.board;
       queue = i.queue;
       tick = i.tick;
       out = i.out;
       counters = i.counters;
-      router = i.router;
       trace = i.trace;
       draining = i.draining;
     }
@@ -60,4 +58,4 @@ returns-clause-fed g c =
     sys_same _ _ i.tick (ap (λ (q : Queue). q.pending) i.queue)
     (all_commanded _ (input_command c.args.byte) v.items c.loop-i.i _ (omega (arith, v.ok.0, i.len, c.len-i-end.ensures, c.loop-i-test.false)) i.done)
     (ap (λ (o : Out). o.next) i.out) (ap (λ (k : Counted). k.counts) i.counters) (ap (λ (k : Counted). k.since) i.counters) i.trace i.draining
-    (ap (λ ps. wires_of (map part_shown ps.items)) i.platform) i.router
+    (ap wires_of i.board) (ap ways_of i.board) (ap (routes_of 0) i.board)

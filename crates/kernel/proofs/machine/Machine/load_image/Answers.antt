@@ -1,7 +1,7 @@
 use Rattle.std.proofs.Common.{◌∙◌, refl, ap}
 use Rattle.elf_image.specs.Loading.{Loading}
 use Rattle.kernel.specs.Shown.{sys_of}
-use Rattle.kernel.proofs.Loads.{none_put, block_put, block_most, image_put, loaded_sound}
+use Rattle.kernel.proofs.Loads.{none_put, block_put, block_most, image_put, loaded_sound, loading_drained, loaded_settled}
 use Rattle.kernel.proofs.machine.Machine.load_image.Goals as goal
 
 pub loop-block-init : goal.loop-block-init
@@ -43,3 +43,14 @@ returns-clause-machine g c =
           (image_put (sys_of (λ b. (goal.SimObject-dyn g (b.vtable, b.value)).state b.value) c.args.self.now) (sys_of (λ b. (goal.SimObject-dyn g (b.vtable, b.value)).state b.value) c.loop-block.self) (sys_of (λ b. (goal.SimObject-dyn g (b.vtable, b.value)).state b.value) c.enter.new.self) c.args.image.now c.loop-block.blocks i.pieces i.put c.in_default.ensures.end c.enter.ensures.entered)
           i.machine.sound c.enter.ensures.table c.requires.fits;
     }
+
+pub put_raw-requires-clause-drained : goal.put_raw-requires-clause-drained
+put_raw-requires-clause-drained g c =
+    let i = c.loop-block.invariant in
+    loading_drained (sys_of (λ b. (goal.SimObject-dyn g (b.vtable, b.value)).state b.value) c.args.self.now) (sys_of (λ b. (goal.SimObject-dyn g (b.vtable, b.value)).state b.value) c.loop-block.self) c.loop-block.blocks c.args.image.now.pieces i.pieces i.put c.requires.fits
+
+pub returns-clause-settled : goal.returns-clause-settled
+returns-clause-settled g c =
+    let i = c.loop-block.invariant in
+    loaded_settled (sys_of (λ b. (goal.SimObject-dyn g (b.vtable, b.value)).state b.value) c.args.self.now) (sys_of (λ b. (goal.SimObject-dyn g (b.vtable, b.value)).state b.value) c.enter.new.self) c.args.image.now
+    (image_put (sys_of (λ b. (goal.SimObject-dyn g (b.vtable, b.value)).state b.value) c.args.self.now) (sys_of (λ b. (goal.SimObject-dyn g (b.vtable, b.value)).state b.value) c.loop-block.self) (sys_of (λ b. (goal.SimObject-dyn g (b.vtable, b.value)).state b.value) c.enter.new.self) c.args.image.now c.loop-block.blocks i.pieces i.put c.in_default.ensures.end c.enter.ensures.entered) c.requires.fits

@@ -1,8 +1,8 @@
 use Rattle.std.proofs.Common.{arith, refl, sym, ap, map, ◌∙◌}
 use Rattle.std.proofs.lemmas.List.{length-map}
 use Rattle.gm_model.specs.Command.{resume_step}
-use Rattle.gm_words.specs.Platform.{wires_of}
-use Rattle.gm_words.specs.Shown.{part_shown}
+use Rattle.gm_words.specs.Platform.{wires_of, ways_of}
+use Rattle.gm_words.specs.Routes.{routes_of}
 use Rattle.obj_core.specs.Out.{Out}
 use Rattle.probe_stats.specs.Counted.{Counted}
 use Rattle.kernel.proofs.Changes.{sys_same, all_commanded, all_changed, from_start, still_rest, one_commanded, one_changed, handles_still}
@@ -14,12 +14,11 @@ loop-i-init g c = record {
   resumed = from_start (λ o. resume_step o c.args.self.now.tick) _;
   events = refl;
   len = refl;
-  platform = refl;
+  board = refl;
   table = refl;
   tick = refl;
   out = refl;
   counters = refl;
-  router = refl;
   trace = refl;
   draining = refl;
 }
@@ -44,12 +43,11 @@ loop-i-preserved g c =
           (omega (arith, v.ok.0, i.len, c.len-i-end.ensures, c.loop-i-test.true)) c.index_mut.ensures.value i.rest (rw (sym i.tick) c.resume_box.ensures.state)
           c.loop-i.self.queue c.resume_box.new.q _ (rw (sym i.tick) c.resume_box.ensures.events) i.events;
       len = i.len;
-      platform = i.platform;
+      board = i.board;
       table = ap (λ q. q.table) c.resume_box.ensures.events ∙ i.table;
       tick = i.tick;
       out = i.out;
       counters = i.counters;
-      router = i.router;
       trace = i.trace;
       draining = i.draining;
     }
@@ -61,4 +59,4 @@ returns-clause-resumed g c =
     sys_same _ _ i.tick (all_changed (λ o. resume_step o c.args.self.now.tick) c.loop-i.i _ _ _ (rw length-map (omega (arith, c.args.self.now.parts.ok.0, c.len-i-end.ensures, c.loop-i-test.false))) i.events)
     (all_commanded _ (λ o. resume_step o c.args.self.now.tick) v.items c.loop-i.i _ (omega (arith, v.ok.0, i.len, c.len-i-end.ensures, c.loop-i-test.false)) i.resumed)
     (ap (λ (o : Out). o.next) i.out) (ap (λ (k : Counted). k.counts) i.counters) (ap (λ (k : Counted). k.since) i.counters) i.trace i.draining
-    (ap (λ ps. wires_of (map part_shown ps.items)) i.platform) i.router
+    (ap wires_of i.board) (ap ways_of i.board) (ap (routes_of 0) i.board)

@@ -14,12 +14,11 @@ invariant-loop-i g l = record {
   events : commanded_events (λ o. resume_step o l.initial.self.tick) (drop l.i (map (λ b. (goal.SimObject-dyn g (b.vtable, b.value)).state b.value) l.initial.self.parts.items)) l.self.queue.pending
       ≡ commanded_events (λ o. resume_step o l.initial.self.tick) (map (λ b. (goal.SimObject-dyn g (b.vtable, b.value)).state b.value) l.initial.self.parts.items) l.initial.self.queue.pending;
   len : vec_len l.self.parts ≡ vec_len l.initial.self.parts;
-  platform : l.self.platform ≡ l.initial.self.platform;
+  board : l.self.board ≡ l.initial.self.board;
   table : l.self.queue.table ≡ l.initial.self.queue.table;
   tick : l.self.tick ≡ l.initial.self.tick;
   out : l.self.out ≡ l.initial.self.out;
   counters : l.self.counters ≡ l.initial.self.counters;
-  router : l.self.router ≡ l.initial.self.router;
   trace : l.self.trace ≡ l.initial.self.trace;
   draining : l.self.draining ≡ l.initial.self.draining;
 }

@@ -115,3 +115,6 @@ overflow_sub-insts g c = (retired_here _ _ c.run.events c.retired-start.result c
 
 pub overflow_sub-insts-2 : goal.overflow_sub-insts-2
 overflow_sub-insts-2 g c = (retired_here _ _ c.run.events c.retired-start.result c.retired-2.result c.run.invariant.ran c.retired-start.ensures c.retired-2.ensures).0
+
+pub returns-in_err-step-clause-cause : goal.returns-in_err-step-clause-cause
+returns-in_err-step-clause-cause g c = search rules

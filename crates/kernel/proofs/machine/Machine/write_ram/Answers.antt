@@ -1,8 +1,8 @@
 use Rattle.std.proofs.Common.{◌≡◌, ◌+◌, ◌-◌, arith, refl, ap, map, ◌∙◌}
 use Rattle.rv_step.specs.FlatMem.{ram_base}
 use Rattle.gm_model.specs.Command.{with_own_bytes}
-use Rattle.gm_words.specs.Platform.{wires_of}
-use Rattle.gm_words.specs.Shown.{part_shown}
+use Rattle.gm_words.specs.Platform.{wires_of, ways_of}
+use Rattle.gm_words.specs.Routes.{routes_of}
 use Rattle.obj_core.specs.Out.{Out}
 use Rattle.probe_stats.specs.Counted.{Counted}
 use Rattle.ev_queue.specs.Queue.{Queue}
@@ -16,12 +16,11 @@ loop-i-init g c = record {
   rest = refl;
   done = from_start (put_command c.args.at c.args.from.now) _;
   len = refl;
-  platform = refl;
+  board = refl;
   queue = refl;
   tick = refl;
   out = refl;
   counters = refl;
-  router = refl;
   trace = refl;
   draining = refl;
 }
@@ -45,12 +44,11 @@ loop-i-preserved g c =
       done = one_commanded _ (put_command c.args.at c.args.from.now) _ v.items c.loop-i.i c.index_mut.result.now c.write_box.new.part
           (omega (arith, v.ok.0, i.len, c.len-i-end.ensures, c.loop-i-test.true)) c.index_mut.ensures.value i.rest c.write_box.ensures _ i.done;
       len = i.len;
-      platform = i.platform;
+      board = i.board;
       queue = i.queue;
       tick = i.tick;
       out = i.out;
       counters = i.counters;
-      router = i.router;
       trace = i.trace;
       draining = i.draining;
     }
@@ -62,4 +60,4 @@ returns-clause-raw g c =
     sys_same _ _ i.tick (ap (λ (q : Queue). q.pending) i.queue)
     (all_commanded _ (put_command c.args.at c.args.from.now) v.items c.loop-i.i _ (omega (arith, v.ok.0, i.len, c.len-i-end.ensures, c.loop-i-test.false)) (i.done ∙ ap (λ n. map (λ o. with_own_bytes n c.args.from.now o) (map (λ b. (goal.SimObject-dyn g (b.vtable, b.value)).state b.value) c.args.self.now.parts.items)) (let e : c.args.at ≡ ram_base + c.args.at - ram_base = omega arith in e)))
     (ap (λ (o : Out). o.next) i.out) (ap (λ (k : Counted). k.counts) i.counters) (ap (λ (k : Counted). k.since) i.counters) i.trace i.draining
-    (ap (λ ps. wires_of (map part_shown ps.items)) i.platform) i.router
+    (ap wires_of i.board) (ap ways_of i.board) (ap (routes_of 0) i.board)
