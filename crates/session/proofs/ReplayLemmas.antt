@@ -28,7 +28,6 @@ use Rattle.gm_system.proofs.ForKernel.{built_sound, fed_state, fed_steady, resum
 use Rattle.gm_system.specs.Machine.{IsSteady}
 use Rattle.gm_system.specs.Runs.{Replays, IsRunReplayed}
 use Rattle.gm_system.specs.System.{IsWiredAlike}
-use Rattle.kernel.proofs.Draws.{built_mode}
 use Rattle.session.proofs.ImageLemmas.{image_in_ram}
 use Rattle.session.specs.Replayed.{ScriptsAreReplayed, ReplaysScript}
 use Rattle.session.specs.Script.{Written, stop_written, script_written, machine_start}
@@ -44,7 +43,7 @@ record IsWrittenReplayed (s : Sys) (w : Written) (table : List Slot) : Type 0 wh
 nothing_written : (s : Sys) (w : Written) (table : List Slot) → w.sys ≡ s → w.history ≡ [] → IsSteady s table → IsWrittenReplayed s w table
 nothing_written s w table e n h = record {
   steady = subst (λ t. IsSteady t table) (sym e) h;
-  wiring = subst (IsWiredAlike s) (sym e) (record { wires = refl; router = refl });
+  wiring = subst (IsWiredAlike s) (sym e) (record { wires = refl; ways = refl; routes = refl });
   replays = subst (λ es. Replays s es w.sys) (sym n) (subst (Replays s []) (sym e) (no_run s));
 }
 
@@ -57,8 +56,8 @@ silent_replayed : (s : Sys) (w : Written) (table : List Slot) → IsSteady w.sys
 silent_replayed s w table h alike e n = record {
   steady = h;
   wiring = alike;
-  replays = (let P : ProgramState → Type 0 = λ p. replay s.router.routes (program_state s []) [] ≡ Some p in
-      let Q : List Entry → Type 0 = λ es. replay s.router.routes (program_state s []) es ≡ Some (program_state w.sys []) in
+  replays = (let P : ProgramState → Type 0 = λ p. replay s.routes (program_state s []) [] ≡ Some p in
+      let Q : List Entry → Type 0 = λ es. replay s.routes (program_state s []) es ≡ Some (program_state w.sys []) in
       subst Q (sym n) (subst P (sym e) (no_run s)));
 }
 
@@ -69,13 +68,13 @@ pub record IsFed (s t : Sys) (table : List Slot) : Type 0 where
   pub state : program_state t [] ≡ program_state s []
 
 input_replayed : (bytes : List ℕ) (s : Sys) (table : List Slot) → IsSteady s table → IsFed s (input_given bytes s) table
-input_replayed [] s table h = record { steady = h; wiring = record { wires = refl; router = refl }; state = refl }
+input_replayed [] s table h = record { steady = h; wiring = record { wires = refl; ways = refl; routes = refl }; state = refl }
 input_replayed (b ∷ bytes) s table h =
     let t : Sys = (picked s (Input b)).sys in
     let later = input_replayed bytes t table (fed_steady s table b h) in
     record {
       steady = later.steady;
-      wiring = wired_then s t (input_given bytes t) (record { wires = refl; router = refl }) later.wiring;
+      wiring = wired_then s t (input_given bytes t) (record { wires = refl; ways = refl; routes = refl }) later.wiring;
       state = later.state ∙ fed_state s table b h;
     }
 
@@ -91,7 +90,7 @@ stop_replayed c s stops.StatsJson table h = nothing_written s (stop_written c s 
 stop_replayed c s (stops.Input bytes) table h =
     let k = input_replayed bytes s table h in silent_replayed s (stop_written c s (stops.Input bytes)) table k.steady k.wiring k.state refl
 stop_replayed c s (stops.Trace on) table h =
-    silent_replayed s (stop_written c s (stops.Trace on)) table (traced_steady s table on h) (record { wires = refl; router = refl }) refl refl
+    silent_replayed s (stop_written c s (stops.Trace on)) table (traced_steady s table on h) (record { wires = refl; ways = refl; routes = refl }) refl refl
 
 script_replayed : (c : Config) (s : Sys) (xs : List Stop) (table : List Slot) → IsSteady s table → IsWrittenReplayed s (script_written c s xs) table
 unfolding script_written
@@ -107,19 +106,19 @@ script_replayed c s (x ∷ xs) table h =
       replays = run_then s a.sys b.sys a.history b.history k.wiring k.replays l.replays;
     }
 
-start_steady : (c : Config) (image : Image) → IsValidConfig c → c.system_model ≡ false → All (LiesInRam c.system_ram) image.pieces
+start_steady : (c : Config) (image : Image) → IsValidConfig c → All (LiesInRam c.system_ram) image.pieces
     → IsSteady (machine_start c image) (given_table 0 (platform c))
-start_steady c image v e fits =
-    let start = built_sound c image.entry (ram_of image c.system_ram) v e (omega (arith, length-ram_of image c.system_ram fits)) in
+start_steady c image v fits =
+    let start = built_sound c image.entry (ram_of image c.system_ram) v (omega (arith, length-ram_of image c.system_ram fits)) in
     (resumed_sound (start_state c image.entry (ram_of image c.system_ram)) (given_table 0 (platform c)) start).steady
 
 pub scripts_replayed : ScriptsAreReplayed
-scripts_replayed c image xs v e fits =
-    (script_replayed c (machine_start c image) xs (given_table 0 (platform c)) (start_steady c image v e fits)).replays
+scripts_replayed c image xs v fits =
+    (script_replayed c (machine_start c image) xs (given_table 0 (platform c)) (start_steady c image v fits)).replays
 
 parsed_valid : (bytes : List ℕ) (c : Config) → ParsesConfig bytes c → IsValidConfig c
 parsed_valid bytes c k = subst IsValidConfig (sym k.values) (valid_config k.table k.sound)
 
 pub script_replays : (words : List (List ℕ)) (files : Option Files) (parts : List ObjState) → ReplaysScript words files parts
 script_replays words files parts c stops image k =
-    scripts_replayed c image stops (parsed_valid k.has_config.bytes c k.has_config.says) (built_mode c parts k.built) (image_in_ram k.has_image.bytes c.system_ram image k.has_image.says)
+    scripts_replayed c image stops (parsed_valid k.has_config.bytes c k.has_config.says) (image_in_ram k.has_image.bytes c.system_ram image k.has_image.says)

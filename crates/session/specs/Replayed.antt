@@ -1,5 +1,5 @@
 -- What the events of a script note, against the instruction set over flat memory. Source: this project's own law.
-use Rattle.std.specs.Prelude.{◌≡◌, ℕ, false, All, List, [], Option, Some, None}
+use Rattle.std.specs.Prelude.{◌≡◌, ℕ, All, List, [], Option, Some, None}
 use Rattle.cfg_tree.specs.Valid.{IsValidConfig}
 use Rattle.cfg_tree.specs.declared.config.Config.{Config}
 use Rattle.elf_image.specs.Image.{LiesInRam}
@@ -19,10 +19,10 @@ use Rattle.stop_script.specs.declared.stop.Stop.{Stop}
 abbrev pub IsReplayedFrom : Sys → Written → Type 0
 IsReplayedFrom start w = replay start.routes (program_state start []) w.history ≡ Some (program_state w.sys [])
 
--- so it is for each machine of a valid configuration in atomic mode, with an image that lies in RAM, and each script
+-- so it is for each machine of a valid configuration, in either mode, with an image that lies in RAM, and each script
 abbrev pub ScriptsAreReplayed : Type 0
 ScriptsAreReplayed =
-    (c : Config) (image : Image) (stops : List Stop) → IsValidConfig c → c.system_model ≡ false → All (LiesInRam c.system_ram) image.pieces
+    (c : Config) (image : Image) (stops : List Stop) → IsValidConfig c → All (LiesInRam c.system_ram) image.pieces
     → IsReplayedFrom (machine_start c image) (script_written c (machine_start c image) stops)
 
 -- the words name a configuration, a script and an image in these files, and the parts make a machine
