@@ -1,13 +1,15 @@
 #!/usr/bin/env python3
-"""Measures `gemcore run` in atomic mode beside `gemcore flat` on the same image, in one run, and prints the ratio.
+"""Measures `gemcore run` in both modes beside `gemcore flat` on the same image, in one run, and prints the ratios.
 
-    bench/machine.py [--rounds N] [--source FILE] [--program FILE]
+    bench/machine.py [--rounds N] [--insts N] [--source FILE] [--program FILE]
 
-Run by hand. It builds the program by bin/gemcore where no other is named, and assembles FILE, bench/loop.s by default, whose guest
-has to exit. Times are processor seconds, the least of the rounds. The instructions are those that `flat` counts.
+Run by hand. It builds the program by bin/gemcore where no other is named, and assembles FILE, bench/loop.s by default. Each makes the
+first N instructions of the guest, 20 million by default, on the machines of examples/. Times are processor seconds, the least of the
+rounds, with the start of each (no instruction) taken off.
 """
 import argparse
 import os
+import re
 import resource
 import subprocess
 import sys
@@ -16,6 +18,7 @@ import tempfile
 BENCH = os.path.dirname(os.path.abspath(__file__))
 TOP = os.path.dirname(BENCH)
 PROGRAM = os.path.join(TOP, "crates", "gc_cli", "out", "gc_cli")
+MACHINES = {"atomic": "machine.toml", "timing": "timing.toml"}
 
 
 def processor_seconds():
@@ -26,12 +29,35 @@ def processor_seconds():
 def timed(command):
     before = processor_seconds()
     run = subprocess.run(command, capture_output=True, text=True, check=True)
-    return processor_seconds() - before, run.stderr
+    return processor_seconds() - before, run.stderr.splitlines()[0]
+
+
+def put(folder, name, text):
+    """The name of a file with this text."""
+    path = os.path.join(folder, name)
+    with open(path, "w", encoding="utf-8") as file:
+        file.write(text)
+    return path
+
+
+def machine(folder, mode):
+    """The configuration of a machine of examples/, whose budget ends no run."""
+    with open(os.path.join(TOP, "examples", MACHINES[mode]), encoding="utf-8") as file:
+        text = file.read()
+    return put(folder, mode, re.sub(r"(?m)^budget = \d+", "budget = 1000000000000", text))
+
+
+def commands(program, folder, image, insts):
+    """What makes so many instructions over flat memory, and on a machine of each mode."""
+    script = put(folder, f"insts{insts}", f"run insts {insts}\n")
+    runs = {mode: [program, "run", machine(folder, mode), image, script] for mode in MACHINES}
+    return {"flat": [program, "flat", image, str(insts)], **runs}
 
 
 def main():
     parser = argparse.ArgumentParser(description=__doc__.splitlines()[0])
     parser.add_argument("--rounds", type=int, default=5)
+    parser.add_argument("--insts", type=int, default=20_000_000)
     parser.add_argument("--source", default=os.path.join(BENCH, "loop.s"))
     parser.add_argument("--program")
     asked = parser.parse_args()
@@ -39,26 +65,21 @@ def main():
     if program is None:
         subprocess.run([os.path.join(TOP, "bin", "gemcore"), "flat", os.devnull, "0"], check=True, capture_output=True)
         program = PROGRAM
+    least, said = {}, {}
     with tempfile.TemporaryDirectory() as folder:
-        image, script = os.path.join(folder, "image"), os.path.join(folder, "script")
+        image = os.path.join(folder, "image")
         subprocess.run([program, "asm", asked.source, image], check=True)
-        with open(script, "w", encoding="utf-8") as file:
-            file.write("run end\n")
-        config = os.path.join(TOP, "examples", "machine.toml")
-        commands = {
-            "flat": [program, "flat", image, "1000000000"],
-            "run": [program, "run", config, image, script],
-        }
-        least, said = {}, {}
         for _ in range(asked.rounds):
-            for name, command in commands.items():
-                seconds, said[name] = timed(command)
-                least[name] = min(least.get(name, seconds), seconds)
-    steps = int(said["flat"].splitlines()[0].split()[-1])
-    for name in commands:
-        print(f"{name:5} {least[name]:.3f} s, {steps / least[name] / 1e6:.1f} million instructions a second")
-    print(f"ratio {least['run'] / least['flat']:.1f}")
-    print(said["run"].splitlines()[0])
+            for insts in (0, asked.insts):
+                for name, command in commands(program, folder, image, insts).items():
+                    seconds, said[name] = timed(command)
+                    least[name, insts] = min(least.get((name, insts), seconds), seconds)
+    net = {name: max(least[name, asked.insts] - least[name, 0], 1e-9) for name in said}
+    for name, line in said.items():
+        start = least[name, 0] * 1000
+        print(f"{name:6} {net[name]:.3f} s, {asked.insts / net[name] / 1e6:.2f} million instructions a second, start {start:.0f} ms: {line}")
+    for mode in MACHINES:
+        print(f"ratio of {mode} {net[mode] / net['flat']:.1f}")
 
 
 if __name__ == "__main__":

@@ -3,9 +3,9 @@
 
     bench/trace.py [--rounds N] [--insts N] [--source FILE] [--program FILE]
 
-Run by hand. It builds the program by bin/gemcore where no other is named, and assembles FILE, bench/loop.s by default. In atomic mode an
-instruction is an event, so that a million instructions are a million events. Times are processor seconds, the least of the rounds; the
-report goes to a file.
+Run by hand. It builds the program by bin/gemcore where no other is named, and assembles FILE, bench/loop.s by default. The machine is
+in atomic mode, where an instruction is an event, so that a million instructions are a million events. Times are processor seconds, the
+least of the rounds; the report goes to a file.
 """
 import argparse
 import os

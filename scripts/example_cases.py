@@ -24,14 +24,22 @@ fn examples_write_what_is_stored_beside_them(rt: HostRuntime) -> Result<(), Fail
 }
 """
 FLAT = '&["flat", "image", "1000"]'
-# the words, which are those of `run` if not told, the program, the script, the console and the report of each example
+# each machine with the constant of its file
+MACHINES = {
+    "machine.toml": ("MACHINE", "The machine of the examples."),
+    "timing.toml": ("TIMED_MACHINE", "The same in timing mode."),
+}
+ATOMIC, TIMING = MACHINES
+# the machine, the words, which are those of `run` if not told, the program, the script, the console and the report of each example
 EXAMPLES = [
-    (None, "hello", "hello", "hello.console", "hello.report"),
-    (None, "hello", "steps", "hello.console", "steps.report"),
-    (FLAT, "hello", "hello", "hello.console", "hello.flat.report"),
-    (None, "fibonacci", "hello", None, "fibonacci.report"),
-    (None, "trap", "hello", None, "trap.report"),
-    (None, "timer", "hello", "timer.console", "timer.report"),
+    (ATOMIC, None, "hello", "hello", "hello.console", "hello.report"),
+    (ATOMIC, None, "hello", "steps", "hello.console", "steps.report"),
+    (ATOMIC, FLAT, "hello", "hello", "hello.console", "hello.flat.report"),
+    (ATOMIC, None, "fibonacci", "hello", None, "fibonacci.report"),
+    (ATOMIC, None, "trap", "hello", None, "trap.report"),
+    (ATOMIC, None, "timer", "hello", "timer.console", "timer.report"),
+    (TIMING, None, "hello", "hello", "hello.console", "hello.timing.report"),
+    (TIMING, None, "timer", "hello", "timer.console", "timer.timing.report"),
 ]
 
 
@@ -59,11 +67,11 @@ def octets(file):
     return f'/// `examples/{file}`\nconst {name_of(file)}: &[u8] = b"{lines}";\n'
 
 
-def case(words, program, script, console, report):
+def case(machine, words, program, script, console, report):
     rows = [
         f'name: "{report.removesuffix(".report")}",',
         "files: &[",
-        "    MACHINE,",
+        f"    {MACHINES[machine][0]},",
         f'    ("source", Text({name_of(program + ".s")})),',
         f'    ("script", Text({name_of(script + ".script")})),',
         "],",
@@ -77,13 +85,15 @@ def case(words, program, script, console, report):
 
 
 def cases():
-    files = ["machine.toml"]
-    for _, program, script, console, report in EXAMPLES:
+    files = list(MACHINES)
+    for _, _, program, script, console, report in EXAMPLES:
         files += [program + ".s", program + ".elf", script + ".script", report] + ([console] if console else [])
     contents = [octets(file) if file.endswith((".elf", ".console")) else text(file) for file in dict.fromkeys(files)]
-    machine = f'/// The machine of the examples.\nconst MACHINE: File = ("config", Text({name_of("machine.toml")}));\n'
+    machines = [
+        f'/// {reading}\nconst {name}: File = ("config", Text({name_of(file)}));\n' for file, (name, reading) in MACHINES.items()
+    ]
     table = f"static EXAMPLES: [Case; {len(EXAMPLES)}] = [\n" + "".join(case(*example) for example in EXAMPLES) + "];\n"
-    return HEAD + "\n".join([*contents, machine, table]) + TAIL
+    return HEAD + "\n".join([*contents, *machines, table]) + TAIL
 
 
 if "--check" in sys.argv[1:]:

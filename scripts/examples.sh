@@ -1,7 +1,7 @@
 #!/bin/sh
 # Checks the examples, by hand, from the top of the repository: each shipped image is the one that `gemcore asm` makes of its
 # source, each example writes what is stored beside it, and a C program compiled at -O0 and at -O2 runs over flat memory and in a
-# machine. The last part is skipped where riscv64-unknown-elf-gcc is missing. GEMCORE names another program than bin/gemcore.
+# machine of each model. The last part is skipped where riscv64-unknown-elf-gcc is missing. GEMCORE names another program than bin/gemcore.
 set -eu
 cd "$(dirname "$0")/.."
 gemcore=${GEMCORE:-bin/gemcore}
@@ -27,12 +27,15 @@ expect() {
 }
 
 machine=examples/machine.toml
+timed=examples/timing.toml
 expect examples/hello.console examples/hello.report run "$machine" examples/hello.elf examples/hello.script
 expect examples/hello.console examples/steps.report run "$machine" examples/hello.elf examples/steps.script
 expect examples/hello.console examples/hello.flat.report flat examples/hello.elf 1000
 expect /dev/null examples/fibonacci.report run "$machine" examples/fibonacci.elf examples/hello.script
 expect /dev/null examples/trap.report run "$machine" examples/trap.elf examples/hello.script
 expect examples/timer.console examples/timer.report run "$machine" examples/timer.elf examples/hello.script
+expect examples/hello.console examples/hello.timing.report run "$timed" examples/hello.elf examples/hello.script
+expect examples/timer.console examples/timer.timing.report run "$timed" examples/timer.elf examples/hello.script
 python3 scripts/example_cases.py --check
 echo "the tests of gc_cli have the examples as they stand"
 
@@ -43,11 +46,14 @@ fi
 for level in -O0 -O2; do
     examples/c/build.sh "$folder/primes.elf" "$level" examples/c/primes.c
     "$gemcore" flat "$folder/primes.elf" 1000000 >"$folder/flat.console" 2>"$folder/flat.report"
-    "$gemcore" run examples/machine.toml "$folder/primes.elf" examples/hello.script >"$folder/run.console" 2>"$folder/run.report"
+    "$gemcore" run "$machine" "$folder/primes.elf" examples/hello.script >"$folder/run.console" 2>"$folder/run.report"
     printf '2 3 5 7 11 13 17 19 23 29 31 37 41 43 47 53 59 61 67 71 73 79 83 89 97\n' >"$folder/expected"
+    "$gemcore" run "$timed" "$folder/primes.elf" examples/hello.script >"$folder/timed.console" 2>"$folder/timed.report"
     cmp "$folder/flat.console" "$folder/expected"
     cmp "$folder/run.console" "$folder/expected"
+    cmp "$folder/timed.console" "$folder/expected"
     grep -q '^flat exit 25 steps ' "$folder/flat.report"
     grep -q '^run exit 25 at ' "$folder/run.report"
+    grep -q '^run exit 25 at ' "$folder/timed.report"
     echo "the C program runs at $level"
 done

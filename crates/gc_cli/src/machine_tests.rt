@@ -10,11 +10,12 @@ ghost use Rattle.kernel.specs.Build.{AreBlank};
 ghost use Rattle.kernel.specs.Shown.{sys_of, sys_seen, IsMachine, IsSeen};
 
 use crate::call::tests::{
-    ATOMIC, CONFIG, Case, DMA, IMAGE, RUN_END, SILENT, STORE_AND_EXIT, Sinks, TIMING, expect_left,
-    store_of, words_of,
+    ATOMIC, CONFIG, Case, DMA, IMAGE, RUN_END, SILENT, STORE_AND_EXIT, Sinks, TIMED_CONFIG, TIMING,
+    expect_left, store_of, words_of,
 };
 use cfg_tree::Config;
 use cpu_atomic::AtomicCpu;
+use cpu_timing::TimingCpu;
 use gc_base::{NoMemory, ObjId, PktId};
 use gm_model::platform::{RAM_BASE, UART_BASE};
 use gm_model::{Entry, Goal, Kind, Reason, Until};
@@ -25,6 +26,7 @@ use obj_exit::ExitDev;
 use obj_mem::Mem;
 use obj_timer::Timer;
 use obj_uart::Uart;
+use obj_xbar::Xbar;
 use session::gemcore;
 use std::alloc::Global;
 use std::cell::Cell;
@@ -35,7 +37,15 @@ use std::test::Fail;
 // The numbers of the parts whose events are told: their places in the order of paths.
 const ATOMIC_CPU: ObjId = ObjId(0);
 
-const UART: ObjId = ObjId(4);
+const COREBUS: ObjId = ObjId(1);
+
+const MEM: ObjId = ObjId(3);
+
+const MEMBUS: ObjId = ObjId(4);
+
+const TIMING_CPU: ObjId = ObjId(5);
+
+const UART: ObjId = ObjId(7);
 
 /// How many events a run of these tests serves at most.
 const BUDGET: u64 = 1_000_000;
@@ -68,10 +78,11 @@ enum Use {
     Call(Case),
 }
 
-/// Counted parts, what is done with them, and how often they are woken.
+/// Parts, of which two are counted, what is done with them, and how often the atomic CPU and the UART are woken.
 #[derive(Clone, Copy)]
 struct Counting {
     config: &'static str,
+    /// The kind of which one part is missing.
     left_out: Option<Kind>,
     used: Use,
     wakes: u64,
@@ -85,8 +96,16 @@ const BUILT: Counting = Counting {
     wakes: 0,
 };
 
-/// A whole run, in which six events, five fetches and two stores wake the parts.
+/// A whole run in atomic mode: five events, five fetches and two stores wake the CPU, and an event wakes the UART.
 const RUN: Counting = Counting { wakes: 13, ..BUILT };
+
+/// A whole run in timing mode, in which the atomic CPU sleeps. The UART gets the store's offer, serves it, is told that its response was
+/// taken, and has sent the byte.
+const TIMED_RUN: Counting = Counting {
+    config: TIMING,
+    wakes: 4,
+    ..BUILT
+};
 
 /// A blank part more, unless it is of a kind that is left out.
 fn keep(
@@ -280,31 +299,36 @@ fn expect_use(
     Ok(())
 }
 
-/// Boxes the parts of each case, and compares what comes of them and how often they are woken.
+/// Boxes the parts of each case, and compares what comes of them and how often the counted ones are woken.
+///
+/// Two kinds are counted, one that asks and one that serves: what a box holds is proved for each type that is boxed.
 fn expect_counted(rt: &(impl Abort + AllocGlobal), cases: &[Counting]) -> Result<(), Fail> {
     for case in cases {
         let wakes = Rc::new(rt.alloc(), Cell::new(0u64))?;
         let mut parts = Vec::new(rt.alloc());
         let part = Counted::new(Uart::blank(), Rc::clone(&wakes)?);
         keep(&mut parts, Box::new(rt.alloc(), part)?, case.left_out)?;
-        let part = Counted::new(Mem::blank(), Rc::clone(&wakes)?);
-        keep(&mut parts, Box::new(rt.alloc(), part)?, case.left_out)?;
-        let part = Counted::new(ExitDev::blank(), Rc::clone(&wakes)?);
-        keep(&mut parts, Box::new(rt.alloc(), part)?, case.left_out)?;
         let part = Counted::new(AtomicCpu::blank(), Rc::clone(&wakes)?);
         keep(&mut parts, Box::new(rt.alloc(), part)?, case.left_out)?;
-        keep(
-            &mut parts,
-            Box::new(rt.alloc(), Timer::blank())?,
-            case.left_out,
-        )?;
+        let part = Box::new(rt.alloc(), TimingCpu::blank())?;
+        keep(&mut parts, part, case.left_out)?;
+        let part = Box::new(rt.alloc(), Mem::blank())?;
+        keep(&mut parts, part, case.left_out)?;
+        let part = Box::new(rt.alloc(), ExitDev::blank())?;
+        keep(&mut parts, part, case.left_out)?;
+        let part = Box::new(rt.alloc(), Timer::blank())?;
+        keep(&mut parts, part, case.left_out)?;
+        let part = Box::new(rt.alloc(), Xbar::blank())?;
+        keep(&mut parts, part, None)?;
+        let part = Box::new(rt.alloc(), Xbar::blank())?;
+        keep(&mut parts, part, case.left_out)?;
         expect_use(rt, case, parts)?;
         assert_eq!(rt; wakes.get(), case.wakes);
     }
     Ok(())
 }
 
-static RUNS: [Counting; 4] = [
+static RUNS: [Counting; 6] = [
     Counting {
         used: Use::Machine(Asked::Runs(
             &[(Until::End, BUDGET), (Until::End, BUDGET)],
@@ -349,6 +373,28 @@ static RUNS: [Counting; 4] = [
         )),
         ..RUN
     },
+    Counting {
+        used: Use::Machine(Asked::Runs(
+            &[(Until::Insts(1), BUDGET), (Until::Tick(4_000), BUDGET)],
+            &[
+                (Reason::Insts, 1, 6, 1_900),
+                (Reason::Tick, 1, 13, 4_000),
+                (Reason::Exit(0), 2, 22, 7_250),
+            ],
+        )),
+        ..TIMED_RUN
+    },
+    Counting {
+        used: Use::Machine(Asked::Runs(
+            &[(Until::End, 3), (Until::End, 0)],
+            &[
+                (Reason::Limit, 0, 3, 1_200),
+                (Reason::Limit, 0, 0, 1_200),
+                (Reason::Exit(0), 4, 38, 7_250),
+            ],
+        )),
+        ..TIMED_RUN
+    },
 ];
 
 #[test]
@@ -356,18 +402,34 @@ fn a_run_ends_where_it_is_asked_to_and_goes_on_from_there(rt: HostRuntime) -> Re
     expect_counted(&rt, &RUNS)
 }
 
-static EVENTS: [Counting; 1] = [Counting {
-    used: Use::Machine(Asked::Events(&[
-        Some((1_000, ATOMIC_CPU, None)),
-        Some((2_700, ATOMIC_CPU, None)),
-        Some((4_400, ATOMIC_CPU, Some(1))),
-        Some((5_400, UART, None)),
-        Some((6_500, ATOMIC_CPU, None)),
-        Some((8_200, ATOMIC_CPU, None)),
-        None,
-    ])),
-    ..RUN
-}];
+static EVENTS: [Counting; 2] = [
+    Counting {
+        used: Use::Machine(Asked::Events(&[
+            Some((1_000, ATOMIC_CPU, None)),
+            Some((2_700, ATOMIC_CPU, None)),
+            Some((4_400, ATOMIC_CPU, Some(1))),
+            Some((5_400, UART, None)),
+            Some((6_500, ATOMIC_CPU, None)),
+            Some((8_200, ATOMIC_CPU, None)),
+            None,
+        ])),
+        ..RUN
+    },
+    // A fetch goes there and back, and the next begins.
+    Counting {
+        used: Use::Machine(Asked::Events(&[
+            Some((1_000, TIMING_CPU, None)),
+            Some((1_100, COREBUS, None)),
+            Some((1_200, MEMBUS, None)),
+            Some((1_700, MEM, None)),
+            Some((1_800, MEMBUS, None)),
+            Some((1_900, COREBUS, None)),
+            Some((2_000, TIMING_CPU, None)),
+        ])),
+        wakes: 0,
+        ..TIMED_RUN
+    },
+];
 
 #[test]
 fn each_event_is_served_at_its_own_tick(rt: HostRuntime) -> Result<(), Fail> {
@@ -402,7 +464,7 @@ const STORED: [Entry; 3] = [
     },
 ];
 
-// Three events, three fetches and a store wake the parts.
+// Three events, three fetches and a store wake the CPU.
 static REFUSED_BYTE: [Counting; 1] = [Counting {
     used: Use::Machine(Asked::RefusedByte(4_400, &STORED)),
     wakes: 7,
@@ -421,11 +483,27 @@ macro_rules! lacking {
     };
 }
 
-static MISSING: [Counting; 8] = [
+/// A machine that isn't built for want of a part.
+const LACKING_ATOMIC_CPU: Counting = Counting {
+    left_out: Some(Kind::AtomicCpu),
+    used: lacking!(Kind::AtomicCpu),
+    ..BUILT
+};
+
+const LACKING_TIMING_CPU: Counting = Counting {
+    left_out: Some(Kind::TimingCpu),
+    used: lacking!(Kind::TimingCpu),
+    ..BUILT
+};
+
+// A machine has the CPUs of both models, whichever it begins with.
+static MISSING: [Counting; 12] = [
     BUILT,
+    LACKING_ATOMIC_CPU,
+    LACKING_TIMING_CPU,
     Counting {
-        left_out: Some(Kind::AtomicCpu),
-        used: lacking!(Kind::AtomicCpu),
+        left_out: Some(Kind::Xbar),
+        used: lacking!(Kind::Xbar),
         ..BUILT
     },
     Counting {
@@ -450,8 +528,15 @@ static MISSING: [Counting; 8] = [
     },
     Counting {
         config: TIMING,
-        used: lacking!(Kind::TimingCpu),
         ..BUILT
+    },
+    Counting {
+        config: TIMING,
+        ..LACKING_ATOMIC_CPU
+    },
+    Counting {
+        config: TIMING,
+        ..LACKING_TIMING_CPU
     },
     Counting {
         config: DMA,
@@ -472,7 +557,7 @@ const CALL: Case = Case {
     ..SILENT
 };
 
-static CALLS: [Counting; 2] = [
+static CALLS: [Counting; 4] = [
     Counting {
         used: Use::Call(Case {
             console: b"\x01",
@@ -480,6 +565,24 @@ static CALLS: [Counting; 2] = [
             ..CALL
         }),
         ..RUN
+    },
+    Counting {
+        used: Use::Call(Case {
+            files: &[TIMED_CONFIG, IMAGE, RUN_END],
+            console: b"\x01",
+            report: "run exit 0 at 7250 insts 4 events 41\n",
+            ..CALL
+        }),
+        ..TIMED_RUN
+    },
+    Counting {
+        left_out: Some(Kind::Xbar),
+        used: Use::Call(Case {
+            status: 11,
+            report: "part xbar\n",
+            ..CALL
+        }),
+        ..BUILT
     },
     Counting {
         left_out: Some(Kind::Uart),

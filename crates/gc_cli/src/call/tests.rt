@@ -11,6 +11,7 @@ use std::test::Fail;
 mod examples;
 mod files;
 mod interrupts;
+mod modes;
 mod ticks;
 mod traces;
 
@@ -47,12 +48,17 @@ macro_rules! config_and {
     };
 }
 
-/// These lines, and then the registers once the program has ended.
+/// These lines, and then the registers once the program has ended: behind its last instruction, or where they say that pc is.
 macro_rules! and_registers {
     ($lines:literal) => {
+        and_registers!($lines, pc "0000000080000014")
+    };
+    ($lines:literal, pc $pc:literal) => {
         concat!(
             $lines,
-            "pc 0000000080000014\nx5 0000000000000001\nx10 0000000010000000\nx11 0000000000100000\nmstatus 0000000000001800\n"
+            "pc ",
+            $pc,
+            "\nx5 0000000000000001\nx10 0000000010000000\nx11 0000000000100000\nmstatus 0000000000001800\n"
         )
     };
 }
@@ -163,6 +169,8 @@ const NO_FAULTS: Faults = Faults {
 // What most cases have.
 pub(crate) const CONFIG: File = ("config", Text(ATOMIC));
 
+pub(crate) const TIMED_CONFIG: File = ("config", Text(TIMING));
+
 pub(crate) const IMAGE: File = ("image", Bytes(&STORE_AND_EXIT));
 
 pub(crate) const RUN_END: File = ("script", Text("run end\n"));
@@ -183,7 +191,7 @@ pub(crate) const SILENT: Case = Case {
     left: &[],
 };
 
-static CASES: [Case; 22] = [
+static CASES: [Case; 23] = [
     SILENT,
     Case {
         name: "blank_script",
@@ -195,6 +203,29 @@ static CASES: [Case; 22] = [
         files: &[CONFIG, IMAGE, RUN_END_AND_REGS],
         console: b"\x01",
         report: and_registers!("run exit 0 at 8200 insts 5 events 6\n"),
+        ..SILENT
+    },
+    Case {
+        name: "timing_run",
+        // A fetch comes back 900 ticks behind its event, so an instruction takes a period, and one with an access two: they begin at 1,000,
+        // 2,000, 3,000, 5,000 and 6,000. The exit device keeps its number at 7,000 + 250, before the store has its response and retires.
+        // Each fetch and each access is six events; the last lacks the two of its response, and one is the UART's own.
+        files: &[TIMED_CONFIG, IMAGE, RUN_END_AND_REGS],
+        console: b"\x01",
+        report: and_registers!("run exit 0 at 7250 insts 4 events 41\n", pc "0000000080000010"),
+        ..SILENT
+    },
+    Case {
+        name: "load_of_no_range_in_the_timing_mode",
+        // It is fetched at 1,000, and asks at 2,000. At 2,200 it is refused by fault, and the response comes at 2,400, without any server's
+        // latency. The next event is at 3,000.
+        files: &[
+            TIMED_CONFIG,
+            ("image", Bytes(&[0x83, 0x02, 0x00, 0x00])), // lb x5, 0(x0)
+            ("script", Text("run tick 2999\nregs\n")),
+        ],
+        report: "run tick at 2400 insts 0 events 11\n\
+pc 0000000000000000\nmstatus 0000000000001800\nmepc 0000000080000000\nmcause 0000000000000005\n",
         ..SILENT
     },
     Case {
@@ -269,13 +300,6 @@ run exit 0 at 8200 insts 2 events 3\n",
         files: &[("config", Text(CACHE)), IMAGE, RUN_END],
         status: 11,
         report: "part cache\n",
-        ..SILENT
-    },
-    Case {
-        name: "missing_timing_cpu",
-        files: &[("config", Text(TIMING)), IMAGE, RUN_END],
-        status: 11,
-        report: "part timing\n",
         ..SILENT
     },
     Case {

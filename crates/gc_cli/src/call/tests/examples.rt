@@ -6,10 +6,10 @@ use std::test::Fail;
 
 /// `examples/machine.toml`
 const MACHINE_TOML: &str =
-    r##"# A machine in atomic mode. Latencies and periods are in ticks, sizes in bytes.
+    r##"# A machine in atomic mode; timing.toml has the same one in timing mode. Latencies and periods are in ticks, sizes in bytes.
 
 [system]
-model = "atomic"    # how the CPU runs: "atomic"; "timing" isn't built yet
+model = "atomic"    # how the CPU runs: "atomic", an instruction at each event, or "timing", with packets that take their way
 line = 64           # bytes of a cache line: 16, 32 or 64
 ram = 16777216      # bytes of RAM, a multiple of 4096 up to 16777216
 budget = 100000000  # the most events that one run serves
@@ -25,7 +25,42 @@ latency = 100       # ticks that it takes through the crossbar at RAM and device
 
 [mem]
 latency = 500       # ticks in which RAM answers
-queue = 1           # requests that RAM holds at a time
+queue = 1           # requests that RAM holds at a time, in timing mode
+
+[uart]
+latency = 200       # ticks in which the UART answers
+chartime = 1000     # ticks that sending one byte takes
+
+[timer]
+latency = 200       # ticks in which the timer answers
+period = 100        # ticks of one count of its clock
+
+[exit]
+latency = 50        # ticks in which the exit device answers
+"##;
+
+/// `examples/timing.toml`
+const TIMING_TOML: &str =
+    r##"# The machine of machine.toml in timing mode. Latencies and periods are in ticks, sizes in bytes.
+
+[system]
+model = "timing"    # how the CPU runs: "atomic", an instruction at each event, or "timing", with packets that take their way
+line = 64           # bytes of a cache line: 16, 32 or 64
+ram = 16777216      # bytes of RAM, a multiple of 4096 up to 16777216
+budget = 100000000  # the most events that one run serves
+
+[cpu]
+period = 1000       # ticks of a clock cycle
+
+[corebus]
+latency = 100       # ticks that a packet takes through the crossbar at the CPU
+
+[membus]
+latency = 100       # ticks that it takes through the crossbar at RAM and devices
+
+[mem]
+latency = 500       # ticks in which RAM answers
+queue = 1           # requests that RAM holds at a time, in timing mode
 
 [uart]
 latency = 200       # ticks in which the UART answers
@@ -296,10 +331,40 @@ mcause 8000000000000007
 const TIMER_CONSOLE: &[u8] = b"\
 \x33\x32\x31\x0a";
 
+/// `examples/hello.timing.report`
+const HELLO_TIMING_REPORT: &str = r##"run exit 0 at 121250 insts 86 events 740
+pc 0000000080000024
+x10 0000000010000000
+x11 0000000080000038
+x13 0000000000100000
+mstatus 0000000000001800
+"##;
+
+/// `examples/timer.timing.report`
+const TIMER_TIMING_REPORT: &str = r##"run exit 0 at 314250 insts 37 events 290
+pc 000000008000005c
+x5 0000000080000038
+x6 0000000000000080
+x10 0000000010000000
+x11 0000000002004000
+x12 000000000000000a
+x13 0000000000000030
+x14 0000000000000fa0
+x15 0000000000100000
+mstatus 0000000000001880
+mie 0000000000000080
+mtvec 0000000080000038
+mepc 0000000080000034
+mcause 8000000000000007
+"##;
+
 /// The machine of the examples.
 const MACHINE: File = ("config", Text(MACHINE_TOML));
 
-static EXAMPLES: [Case; 6] = [
+/// The same in timing mode.
+const TIMED_MACHINE: File = ("config", Text(TIMING_TOML));
+
+static EXAMPLES: [Case; 8] = [
     Case {
         name: "hello",
         files: &[
@@ -368,6 +433,30 @@ static EXAMPLES: [Case; 6] = [
         ],
         console: TIMER_CONSOLE,
         report: TIMER_REPORT,
+        left: &[("image", Some(TIMER_ELF))],
+        ..SILENT
+    },
+    Case {
+        name: "hello.timing",
+        files: &[
+            TIMED_MACHINE,
+            ("source", Text(HELLO_S)),
+            ("script", Text(HELLO_SCRIPT)),
+        ],
+        console: HELLO_CONSOLE,
+        report: HELLO_TIMING_REPORT,
+        left: &[("image", Some(HELLO_ELF))],
+        ..SILENT
+    },
+    Case {
+        name: "timer.timing",
+        files: &[
+            TIMED_MACHINE,
+            ("source", Text(TIMER_S)),
+            ("script", Text(HELLO_SCRIPT)),
+        ],
+        console: TIMER_CONSOLE,
+        report: TIMER_TIMING_REPORT,
         left: &[("image", Some(TIMER_ELF))],
         ..SILENT
     },

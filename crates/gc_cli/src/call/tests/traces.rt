@@ -1,6 +1,8 @@
 // Events that are traced, input, and statistics, on the machine of the tests. The ticks and the packet numbers are worked by hand: each
 // fetch and each data access draws a number.
-use super::{Bytes, CONFIG, Case, Faults, File, IMAGE, NO_FAULTS, SILENT, Text, expect_calls};
+use super::{
+    Bytes, CONFIG, Case, Faults, File, IMAGE, NO_FAULTS, SILENT, TIMED_CONFIG, Text, expect_calls,
+};
 use std::test::Fail;
 
 /// Reads the UART's status, and then a byte of its input.
@@ -47,12 +49,27 @@ macro_rules! two_traced {
 /// A traced run to the end of the program that stores and exits.
 const TRACED_RUN: &[File] = &[CONFIG, IMAGE, ("script", Text("trace on\nrun end\n"))];
 
-static CASES: [Case; 10] = [
+static CASES: [Case; 12] = [
     Case {
         name: "traced_instruction",
         files: &[CONFIG, IMAGE, ("script", Text("trace on\nrun insts 1\n"))],
         report: "@1000 acpu 0\nserved i 0 r 0000000080000000 4 ram 37050010\nretired 0000000080000000 10000537\n\
 run insts at 1000 insts 1 events 1\n",
+        ..SILENT
+    },
+    Case {
+        name: "instruction_traced_in_the_timing_mode",
+        // A packet takes 100 ticks in a layer of each crossbar, on both ways, and 500 in RAM. What it meets is known by the slots:
+        // of `corebus` 0 is the layer of requests, and 1 that of responses to fetches; of `membus` 0 is that to RAM, and 6 that of responses.
+        files: &[
+            TIMED_CONFIG,
+            IMAGE,
+            ("script", Text("trace on\nrun insts 1\n")),
+        ],
+        report: "@1000 tcpu 0\n@1100 corebus 0\n@1200 membus 0\n\
+@1700 mem 0\nserved i 0 r 0000000080000000 4 ram 37050010\n\
+@1800 membus 6\n@1900 corebus 1\nretired 0000000080000000 10000537\n\
+run insts at 1900 insts 1 events 6\n",
         ..SILENT
     },
     Case {
@@ -120,6 +137,16 @@ run tick at 10300 insts 1 events 3\n",
         report: "run exit 0 at 8200 insts 5 events 6\n\
 corebus.refused 0\ncpu.retired 5\ncpu.sleeps 0\ncpu.traps 0\ndevice.reads 0\ndevice.writes 2\n\
 mem.refused 0\nmembus.refused 0\nram.reads 5\nram.writes 0\nsim.events 6\nsim.ticks 8200\n",
+        ..SILENT
+    },
+    Case {
+        name: "statistics_of_the_timing_mode",
+        // One requestor with one packet under way is never refused. The store that ends the run is served, and hasn't retired.
+        files: &[TIMED_CONFIG, IMAGE, ("script", Text("run end\nstats\n"))],
+        console: b"\x01",
+        report: "run exit 0 at 7250 insts 4 events 41\n\
+corebus.refused 0\ncpu.retired 4\ncpu.sleeps 0\ncpu.traps 0\ndevice.reads 0\ndevice.writes 2\n\
+mem.refused 0\nmembus.refused 0\nram.reads 5\nram.writes 0\nsim.events 41\nsim.ticks 7250\n",
         ..SILENT
     },
     Case {
