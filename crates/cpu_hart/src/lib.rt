@@ -11,7 +11,8 @@ pub mod packets;
 mod ticks;
 
 pub use hart::{
-    INSTRUCTION_ACCESS, LOAD_ACCESS, STORE_ACCESS, demand, is_asleep, is_awake, retire, set_line, trap,
+    INSTRUCTION_ACCESS, LOAD_ACCESS, STORE_ACCESS, demand, is_asleep, is_awake, retire, set_line,
+    trap,
 };
 pub use octets::{number, word};
 pub use ticks::next_period;

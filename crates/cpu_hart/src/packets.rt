@@ -62,7 +62,14 @@ pub fn fetch(id: PktId, pc: u64) -> Packet
 pub fn load(id: PktId, ram: u32, addr: u64, size: u8) -> Packet
     ensures { result ≡ load_request ram id.0 addr size }
 {
-    request(id, DATA_SOURCE, Cmd::Read, addr, size, !in_ram(ram, addr, size))
+    request(
+        id,
+        DATA_SOURCE,
+        Cmd::Read,
+        addr,
+        size,
+        !in_ram(ram, addr, size),
+    )
 }
 
 /// The data access of a store of v.

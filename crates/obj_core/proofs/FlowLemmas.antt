@@ -78,7 +78,7 @@ put_queued p r [] k ready y c e h = rw c.changed refl
 put_queued p r (x ∷ xs) k ready y c e h =
     rw (c.others x.key (other_first x xs k (vacant p (x ∷ xs) k h e)))
     (ap (λ qs. queued_by x.ready (packet_at p x.key) qs) (put_queued p r xs k ready y c e h.2)
-     ∙ behind_by x.ready (packet_at p x.key) (queued p xs) (record { packet = y; ready = ready } ∷ []))
+    ∙ behind_by x.ready (packet_at p x.key) (queued p xs) (record { packet = y; ready = ready } ∷ []))
 
 held_some : (o : Option Packet) (y : Packet) → o ≡ Some y → MayPass y → IsSomeAnd o MayPass
 held_some o y e m = subst (λ v. IsSomeAnd v MayPass) (sym e) m
@@ -92,9 +92,11 @@ pub put_held : (p r : Pooled) (xs : List Place) (k ready : ℕ) (y : Packet) →
     → AreHeld r (xs ++ record { key = k; ready = ready } ∷ [])
 put_held p r [] k ready y c e m h = (held_some (packet_at r k) y c.changed m, refl, tt)
 put_held p r (x ∷ xs) k ready y c e m h =
-    let d : x.key ≢ k = other_first x xs k (vacant p (x ∷ xs) k h e) in
-    (subst (λ o. IsSomeAnd o MayPass) (sym (c.others x.key d)) h.0,
-     key_end x.key k ready xs h.1 (λ s. d (sym s)), put_held p r xs k ready y c e m h.2)
+    let d : x.key ≢ k = other_first x xs k (vacant p (x ∷ xs) k h e) in (
+      subst (λ o. IsSomeAnd o MayPass) (sym (c.others x.key d)) h.0,
+      key_end x.key k ready xs h.1 (λ s. d (sym s)),
+      put_held p r xs k ready y c e m h.2,
+    )
 
 -- The first packet goes.
 
@@ -146,7 +148,7 @@ pub front_of : (p r t : Pooled) (items : List Place) (x : Place) (xs : List Plac
 front_of p r t items x xs s k ready y e h c d v =
     let g : AreHeld p (x ∷ xs) = first_held p items x xs e h in
     rw e (front_queued r t xs k ready y d v (taken_held p r x xs s c g) ∙ ap (λ qs. record { packet = y; ready = ready } ∷ qs) (taken_queued p r x xs s c g)
-     ∙ sym (front_by y ready x.ready (packet_at p x.key) (queued p xs) g.0))
+    ∙ sym (front_by y ready x.ready (packet_at p x.key) (queued p xs) g.0))
 
 -- The newest write-back that covers an address.
 

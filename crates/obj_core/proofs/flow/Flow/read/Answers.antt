@@ -17,9 +17,9 @@ returns-then-covers-clause-answered c =
     let a = c.args.p.now.addr in
     rw (← c.self.view_is)
     (rw (newest_below o.pool o.queue.items (c.loop-n.n - 1) c.loop-n.n a c.args.p.now.size c.index.result.now c.in-Some.held.now (omega (arith, c.loop-n-test.true))
-     c.loop-n.invariant.within (c.in-Some.ensures ∙ ap (λ (x : Place). packet_at o.pool x.key) c.index.ensures)
-     (rw (← c.loop-n.invariant.read) (sym c.covers.ensures ∙ c.if-covers.true)) c.loop-n.invariant.newer)
-     refl)
+    c.loop-n.invariant.within (c.in-Some.ensures ∙ ap (λ (x : Place). packet_at o.pool x.key) c.index.ensures)
+    (rw (← c.loop-n.invariant.read) (sym c.covers.ensures ∙ c.if-covers.true)) c.loop-n.invariant.newer)
+    refl)
 
 pub returns-then-covers-clause-packet : goal.returns-then-covers-clause-packet
 returns-then-covers-clause-packet c =
@@ -27,6 +27,6 @@ returns-then-covers-clause-packet c =
     let a = c.args.p.now.addr in
     rw (← c.self.view_is)
     (rw (newest_below o.pool o.queue.items (c.loop-n.n - 1) c.loop-n.n a c.args.p.now.size c.index.result.now c.in-Some.held.now (omega (arith, c.loop-n-test.true))
-     c.loop-n.invariant.within (c.in-Some.ensures ∙ ap (λ (x : Place). packet_at o.pool x.key) c.index.ensures)
-     (rw (← c.loop-n.invariant.read) (sym c.covers.ensures ∙ c.if-covers.true)) c.loop-n.invariant.newer)
-     (rw (← c.loop-n.invariant.read) c.answer.ensures))
+    c.loop-n.invariant.within (c.in-Some.ensures ∙ ap (λ (x : Place). packet_at o.pool x.key) c.index.ensures)
+    (rw (← c.loop-n.invariant.read) (sym c.covers.ensures ∙ c.if-covers.true)) c.loop-n.invariant.newer)
+    (rw (← c.loop-n.invariant.read) c.answer.ensures))
