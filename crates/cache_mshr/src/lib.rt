@@ -5,8 +5,8 @@
 //! `Mshrs::new` takes memory. A packet stands here by the key that its pool gave it.
 #![tactic(auto)]
 
+mod entry;
 mod mshrs;
-mod register;
 mod targets;
 
 pub use mshrs::Mshrs;

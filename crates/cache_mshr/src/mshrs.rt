@@ -1,11 +1,11 @@
 // The miss registers of a cache.
-ghost use Rattle.std.specs.Prelude.{◌≡◌, ◌<◌, ◌≤◌, [], length, false, None, IsTrue, IfOk, slice_get};
+ghost use Rattle.std.specs.Prelude.{◌≡◌, ◌<◌, ◌≤◌, [], length, false, None, IsTrue, IfOk, IfSome, slice_get};
 ghost use Rattle.gc_base.specs.Limits.{most_targets};
 ghost use Rattle.std.specs.Vec.{vec_capacity};
 ghost use Rattle.cache_mshr.specs.Kept.{without_key};
 ghost use Rattle.cache_mshr.specs.Registers.{key_of, is_open, targets_of, has_full, is_full, opened, joined, first_gone, closed, AreSound};
 
-use crate::register::{Register, push_target, take_target};
+use crate::entry::{Entry, push_target, take_target};
 use crate::targets::Targets;
 use gc_base::NoMemory;
 use slab::Slab;
@@ -15,7 +15,7 @@ use std::marker::Model;
 /// The miss registers of a cache: which lines are on their way to it, and which packets wait for each.
 #[derive(Drop)]
 pub struct Mshrs {
-    registers: Slab<Register>,
+    registers: Slab<Entry>,
     /// The keys of the open registers, in the order in which they were opened.
     keys: Vec<usize>,
     count: u32,
@@ -71,8 +71,8 @@ impl Mshrs {
         ensures { result ≡ has_full self.now.places self.now.used }
     {
         for key in &self.keys {
-            if let Some(register) = self.registers.get(*key) {
-                if register.targets.len() == self.targets as usize {
+            if let Some(entry) = self.registers.get(*key) {
+                if entry.targets.len() == self.targets as usize {
                     return true;
                 }
             }
@@ -82,11 +82,12 @@ impl Mshrs {
 
     /// The key of the register that is open for a line, if one is.
     pub fn find(&self, addr: u64) -> Option<usize>
-        ensures { result ≡ key_of addr self.now.used }
+        ensures key { result ≡ key_of addr self.now.used }
+        ensures known { IfSome result (λ k. IsTrue (is_open k self.now.used)) }
     {
         for key in &self.keys {
-            if let Some(register) = self.registers.get(*key) {
-                if register.addr == addr {
+            if let Some(entry) = self.registers.get(*key) {
+                if entry.addr == addr {
                     return Some(*key);
                 }
             }
@@ -100,9 +101,10 @@ impl Mshrs {
         requires apart { key_of addr self.old.used ≡ None }
         ensures new_key { is_open result self.old.used ≡ false }
         ensures opened { self.new ≡ opened result addr first self.old }
+        ensures known { IsTrue (is_open result self.new.used) }
         ensures sound { AreSound self.new }
     {
-        let key = self.registers.insert_reserved(Register {
+        let key = self.registers.insert_reserved(Entry {
             addr,
             targets: Targets::one(first),
         });
@@ -113,7 +115,7 @@ impl Mshrs {
     /// A packet more waits for the line of an open register.
     pub fn add_target(&mut self, reg: usize, packet: usize)
         requires room { is_full self.old ≡ false }
-        requires open_register { IsTrue (is_open reg self.old.used) }
+        requires known { IsTrue (is_open reg self.old.used) }
         ensures joined { self.new ≡ joined reg packet self.old }
         ensures sound { AreSound self.new }
     {
@@ -140,7 +142,7 @@ impl Mshrs {
 
     /// Closes an open register for whose line nobody waits any more.
     pub fn close(&mut self, reg: usize)
-        requires open_register { IsTrue (is_open reg self.old.used) }
+        requires known { IsTrue (is_open reg self.old.used) }
         requires served { targets_of reg self.old.used ≡ [] }
         ensures closed { self.new ≡ closed reg self.old }
         ensures sound { AreSound self.new }

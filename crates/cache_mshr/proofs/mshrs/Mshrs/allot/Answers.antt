@@ -1,5 +1,6 @@
 use Rattle.std.proofs.Common.{◌∙◌, ap, arith}
-use Rattle.cache_mshr.specs.Registers.{Registers, is_full, key_of}
+use Rattle.cache_mshr.specs.Registers.{Registers, is_full, is_open, key_of}
+use Rattle.cache_mshr.proofs.RegistersLemmas.{last_open}
 use Rattle.cache_mshr.proofs.KeptLemmas.{vacant}
 use Rattle.cache_mshr.proofs.CallLemmas.{room_free, view_opened, kept_opened}
 use Rattle.cache_mshr.proofs.mshrs.Mshrs.allot.Goals as goal
@@ -34,6 +35,9 @@ returns-clause-opened c =
     let put = c.insert_reserved-key.ensures in
     rw (← c.self.view_is) (rw c.push_reserved.ensures.items
     (view_opened o.registers _ o.keys.items o.count o.targets c.insert_reserved-key.result c.args.addr c.args.first c.self.invariant.held (rw c.one.ensures at put.updates) put.was_vacant))
+
+pub returns-clause-known : goal.returns-clause-known
+returns-clause-known c = ap (λ (m : Registers). is_open c.insert_reserved-key.result m.used) (returns-clause-opened c) ∙ last_open c.args.self.now.used _
 
 pub returns-clause-sound : goal.returns-clause-sound
 returns-clause-sound c = (invariant_of-self c).sound
