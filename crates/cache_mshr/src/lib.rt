@@ -10,3 +10,6 @@ mod mshrs;
 mod targets;
 
 pub use mshrs::Mshrs;
+
+#[cfg(test)]
+mod tests;
