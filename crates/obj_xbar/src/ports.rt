@@ -90,7 +90,8 @@ impl Ports {
     /// The layer of a request, by its address.
     #[tactic(auto, unfolding(gm_model::specs::Xbar::layer_for))]
     pub(crate) fn way_of(&self, p: &Packet) -> usize
-        ensures { result ≡ layer_for self.now.uses p.now false }
+        ensures value { result ≡ layer_for self.now.uses p.now false }
+        ensures most { result ≤ length self.now.uses }
     {
         match port_use::port_for(&self.uses, p.addr) {
             Some(port) if port < self.uses.len() => port,
