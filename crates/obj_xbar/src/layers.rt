@@ -198,7 +198,8 @@ impl Layers {
     {
         let at = self.offered_at(now);
         if self.side.has_room() {
-            self.ports.put_beside(&mut self.side, &turned(p, port), at, q);
+            self.ports
+                .put_beside(&mut self.side, &turned(p, port), at, q);
             return Answer::Taken;
         }
         self.side.join(port);
