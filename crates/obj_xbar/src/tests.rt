@@ -117,12 +117,7 @@ static ROWS: [&str; 84] = [
 ];
 
 /// What comes of a row.
-fn came_of(
-    rt: &impl Abort,
-    alloc: Global,
-    bench: &mut Bench,
-    given: &str,
-) -> Result<String, Fail> {
+fn came_of(rt: &impl Abort, alloc: Global, bench: &mut Bench, given: &str) -> Result<String, Fail> {
     let mut row = given.split_whitespace();
     let now = Tick::new(text::number(rt, &mut row)).expect(rt, "a tick");
     let mut came = String::new(alloc);

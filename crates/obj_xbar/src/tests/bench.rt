@@ -1,15 +1,16 @@
 // A crossbar on its own, with the queue that gave its handles.
-ghost use Rattle.std.specs.Prelude.{◌≡◌, ◌<◌, IsTrue};
+ghost use Rattle.std.specs.Prelude.{◌≡◌, ◌+◌, ◌-◌, ◌<◌, ◌≤◌, length, replicate, IsTrue, IfOk, OnOk};
+ghost use Rattle.ev_queue.specs.SlotTable.{GivesHandle};
 ghost use Rattle.gc_base.specs.declared.limits.TheConstants.{LATENCY_MAX};
-ghost use Rattle.cfg_tree.specs.Valid.{IsUpTo};
 ghost use Rattle.gm_words.specs.Allowed.{MayPass, MayCome, are_apart};
-ghost use Rattle.gm_words.specs.PortUses.{used, xbar_classes};
+ghost use Rattle.gm_words.specs.PortUses.{used, behind, sides, xbar_classes};
 ghost use Rattle.gm_words.specs.Slots.{gave_from};
 ghost use Rattle.gm_model.specs.ObjState.{ObjState};
 ghost use Rattle.gm_model.specs.Ports.{HasPort, ComesWithin};
+ghost use Rattle.obj_core.specs.Handles.{handles_from};
 ghost use Rattle.obj_core.specs.Out.{HasRoom};
 ghost use Rattle.obj_xbar.specs.Shown.{shown};
-ghost use Rattle.obj_xbar.specs.Stays.{IsXbar};
+ghost use Rattle.obj_xbar.specs.Stays.{IsXbar, Stay};
 
 use crate::Xbar;
 use ev_queue::{EventHandle, EventQueue};
@@ -31,6 +32,16 @@ pub(super) struct Bench {
     ghost given: { IsTrue (gave_from queue.table 0 0 (xbar_classes (used ports))) },
 }
 
+/// The handle of a slot.
+fn handle<const CLASS: u8>(rt: &impl Abort, queue: &mut EventQueue, slot: u8) -> EventHandle<CLASS>
+    ensures handle { result ≡ record { owner = 0; slot = slot } }
+    ensures once { GivesHandle queue.old.table queue.new.table 0 slot CLASS }
+{
+    queue
+        .handle::<CLASS>(ObjId(0), SlotNo(slot))
+        .expect(rt, "a slot")
+}
+
 /// The handles of slots from one number on, up to another.
 fn handles<const CLASS: u8>(
     rt: &impl Abort,
@@ -38,13 +49,27 @@ fn handles<const CLASS: u8>(
     queue: &mut EventQueue,
     from: u8,
     end: u8,
-) -> Result<Vec<EventHandle<CLASS>>, NoMemory> {
+) -> Result<Vec<EventHandle<CLASS>>, NoMemory>
+    requires { from ≤ end }
+    ensures handles { IfOk result (λ hs. hs.items ≡ handles_from 0 CLASS from (replicate (end - from) CLASS)) }
+    ensures given { OnOk result (IsTrue (gave_from queue.new.table 0 from (replicate (end - from) CLASS))) }
+    ensures stay { OnOk result (Stay queue.old.table queue.new.table) }
+{
     let mut handles = Vec::new(alloc);
     for slot in from..end {
-        let handle = queue.handle::<CLASS>(ObjId(0), SlotNo(slot));
-        handles.push(handle.expect(rt, "a slot"))?;
+        handles.push(handle::<CLASS>(rt, queue, slot))?;
     }
     Ok(handles)
+}
+
+/// How many layers there are for requests.
+fn request_layers(ports: &[PortUse]) -> usize
+    requires { length ports.now ≤ 8 }
+    ensures value { result ≡ behind ports.now + sides ports.now }
+    ensures most { result ≤ 9 }
+{
+    let side = if port_use::is_total(ports) { 0 } else { 1 };
+    port_use::behind(ports) + side
 }
 
 impl Bench {
@@ -55,17 +80,19 @@ impl Bench {
         latency: u64,
         ports: [PortUse; 8],
     ) -> Result<Bench, NoMemory>
-        requires latency { IsUpTo LATENCY_MAX latency }
+        requires least { 1 ≤ latency }
+        requires most { latency ≤ LATENCY_MAX }
         requires apart { IsTrue (are_apart ports) }
     {
         let uses = port_use::used(&ports);
-        let side = if port_use::is_total(uses) { 0 } else { 1 };
-        let requests = (port_use::behind(uses) + side) as u8;
+        let requests = request_layers(uses) as u8;
         let slots = requests + port_use::fore(uses) as u8;
         let mut queue = EventQueue::new(alloc, &[slots])?;
+        let request = handles::<10>(rt, alloc, &mut queue, 0, requests)?;
+        let response = handles::<0>(rt, alloc, &mut queue, requests, slots)?;
         let handles = Handles {
-            response: handles::<0>(rt, alloc, &mut queue, requests, slots)?,
-            request: handles::<10>(rt, alloc, &mut queue, 0, requests)?,
+            response,
+            request,
             device: Vec::new(alloc),
             cpu: Vec::new(alloc),
         };
@@ -127,13 +154,7 @@ impl Bench {
     }
 
     /// Wakes it.
-    pub(super) fn wake(
-        &mut self,
-        rt: &impl Abort,
-        now: Tick,
-        w: Wake,
-        out: &mut Outbox,
-    ) -> Answer
+    pub(super) fn wake(&mut self, rt: &impl Abort, now: Tick, w: Wake, out: &mut Outbox) -> Answer
         requires { HasRoom out.old }
     {
         assert!(rt; now.get() <= TOP);

@@ -1,4 +1,6 @@
 // Rows as text: what happens, and what comes of it.
+ghost use Rattle.gm_words.specs.Allowed.{MayPass};
+
 use ev_queue::EventQueue;
 use gc_base::{PktId, PortNo, SlotNo};
 use gm_model::{Act, Cmd, Packet, Wake, Way};
@@ -32,7 +34,9 @@ fn cmd(rt: &impl Abort, row: &mut SplitWhitespace<'_>) -> Cmd {
 }
 
 /// The packet of a row, of eight bytes.
-pub(super) fn packet(rt: &impl Abort, row: &mut SplitWhitespace<'_>) -> Packet {
+pub(super) fn packet(rt: &impl Abort, row: &mut SplitWhitespace<'_>) -> Packet
+    ensures { MayPass result }
+{
     let id = small(rt, row);
     let cmd = cmd(rt, row);
     let addr = u64::from_str_radix(word(rt, row), 16).expect(rt, "an address");
@@ -57,6 +61,7 @@ pub(super) fn packet(rt: &impl Abort, row: &mut SplitWhitespace<'_>) -> Packet {
             packet.push_port(PortNo(digit - b'0'));
         }
     }
+    assert!(rt; packet.size <= 64);
     packet
 }
 
@@ -79,7 +84,14 @@ pub(super) fn wake(rt: &impl Abort, verb: &str, row: &mut SplitWhitespace<'_>) -
 /// Writes what a packet shows.
 pub(super) fn put_packet(text: &mut String, p: &Packet) -> Result<(), AllocError> {
     let depth = (p.depth as usize).min(8);
-    write!(text, "{} {:?} {:x} {:?}", p.id.0, p.cmd, p.addr, &p.stack[..depth])?;
+    write!(
+        text,
+        "{} {:?} {:x} {:?}",
+        p.id.0,
+        p.cmd,
+        p.addr,
+        &p.stack[..depth]
+    )?;
     if p.fault {
         text.push_str(" fault")?;
     }
