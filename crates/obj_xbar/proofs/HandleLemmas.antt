@@ -10,7 +10,7 @@ use Rattle.gm_words.specs.declared.port_use.PortUse.{PortUse}
 use Rattle.obj_core.specs.Handles.{handles_from}
 
 -- so many handles, of slots one after another
-abbrev run : ℕ → ℕ → ℕ → List Handle
+abbrev pub run : ℕ → ℕ → ℕ → List Handle
 run o s zero = []
 run o s (suc n) = record { owner = o; slot = s } ∷ run o (s + 1) n
 
@@ -24,11 +24,11 @@ run_at o s (suc n) zero d l = ap (λ k. record { owner = o; slot = k }) (omega a
 run_at o s (suc n) (suc i) d l = run_at o (s + 1) n i d (omega (arith, l)) ∙ ap (λ k. record { owner = o; slot = k }) (omega arith)
 
 -- the layers for responses stand behind the others
-only_responses : (o s b : ℕ) → handles_from o 0 s (replicate b 0) ≡ run o s b
+pub only_responses : (o s b : ℕ) → handles_from o 0 s (replicate b 0) ≡ run o s b
 only_responses o s zero = refl
 only_responses o s (suc b) = ap (λ l. record { owner = o; slot = s } ∷ l) (only_responses o (s + 1) b)
 
-behind_requests : (o s a b : ℕ) → handles_from o 0 s (replicate a 10 ++ replicate b 0) ≡ run o (s + a) b
+pub behind_requests : (o s a b : ℕ) → handles_from o 0 s (replicate a 10 ++ replicate b 0) ≡ run o (s + a) b
 behind_requests o s zero b = only_responses o s b ∙ ap (λ k. run o k b) (omega arith)
 behind_requests o s (suc a) b = behind_requests o (s + 1) a b ∙ ap (λ k. run o k b) (omega arith)
 
@@ -37,7 +37,7 @@ no_requests : (o s b : ℕ) → handles_from o 10 s (replicate b 0) ≡ []
 no_requests o s zero = refl
 no_requests o s (suc b) = no_requests o (s + 1) b
 
-before_responses : (o s a b : ℕ) → handles_from o 10 s (replicate a 10 ++ replicate b 0) ≡ run o s a
+pub before_responses : (o s a b : ℕ) → handles_from o 10 s (replicate a 10 ++ replicate b 0) ≡ run o s a
 before_responses o s zero b = no_requests o s b
 before_responses o s (suc a) b = ap (λ l. record { owner = o; slot = s } ∷ l) (before_responses o (s + 1) a b)
 

@@ -4,3 +4,4 @@ pub mod LayerLemmas
 pub mod StayLemmas
 pub mod StepLemmas
 pub mod SideLemmas
+pub mod GivenLemmas
