@@ -1,5 +1,5 @@
 -- The handles of a crossbar's layers.
-use Rattle.std.proofs.Common.{◌≡◌, ℕ, suc, zero, ◌+◌, ◌-◌, ◌≤◌, ◌<◌, ◌==◌, ◌&&◌, refl, sym, ◌∙◌, ap, arith, subst, Bool, true, false, IsTrue, if◌then◌else◌, List, [], ◌∷◌, ◌++◌, length, replicate, get_or, nat_lt}
+use Rattle.std.proofs.Common.{◌≡◌, ℕ, suc, zero, ◌+◌, ◌-◌, ◌≤◌, ◌<◌, ◌&&◌, refl, ◌∙◌, ap, arith, Bool, true, false, IsTrue, List, [], ◌∷◌, ◌++◌, length, replicate, get_or}
 use Rattle.std.proofs.lemmas.Bool.{lt-ltb, le-ltb}
 use Rattle.ev_queue.specs.Handle.{Handle}
 use Rattle.ev_queue.specs.SlotTable.{gave}

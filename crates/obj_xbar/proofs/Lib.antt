@@ -3,3 +3,4 @@ pub mod HandleLemmas
 pub mod LayerLemmas
 pub mod StayLemmas
 pub mod StepLemmas
+pub mod SideLemmas

@@ -1,5 +1,5 @@
 -- No wake changes whose crossbar it is, nor its ports.
-use Rattle.std.proofs.Common.{◌≡◌, ℕ, ◌==◌, Bool, true, false, if◌then◌else◌, List, [], ◌∷◌, length}
+use Rattle.std.proofs.Common.{ℕ, ◌==◌, Bool, true, false, if◌then◌else◌, List, [], ◌∷◌, length}
 use Rattle.gm_words.specs.Flow.{Queued, OutState, Quiet, Due, Asked, Waits}
 use Rattle.pkt_pool.specs.Packet.{top_port, is_write_back, fault_response}
 use Rattle.gm_words.specs.PortUses.{source_port, port_of_slot, is_side_slot}

@@ -1,8 +1,6 @@
 -- The steps of a crossbar, by what its layers hold.
-use Rattle.std.proofs.Common.{◌≡◌, ℕ, zero, suc, ◌+◌, ◌-◌, ◌≤◌, ◌<◌, ◌==◌, ◌&&◌, refl, sym, ◌∙◌, ap, arith, Bool, true, false, if◌then◌else◌, List, [], ◌∷◌, length, slice_set, slice_index_or}
-use Rattle.gm_words.specs.Flow.{Flow, Queued, OutState, Quiet, Due, Asked, Waits, Lane, quiet_flow, empty_lane}
-use Rattle.pkt_pool.specs.Packet.{top_port}
-use Rattle.gm_words.specs.PortUses.{source_port}
+use Rattle.std.proofs.Common.{◌≡◌, ℕ, zero, suc, ◌-◌, ◌≤◌, ◌==◌, ◌&&◌, refl, ◌∙◌, ap, arith, true, false, if◌then◌else◌, List, [], ◌∷◌, length, slice_set}
+use Rattle.gm_words.specs.Flow.{Queued, OutState, Quiet, Due, Asked, Waits, Lane, quiet_flow, empty_lane}
 use Rattle.gm_words.specs.declared.port_use.PortUse.{PortUse}
 use Rattle.gm_model.specs.Flows.{Outlet, still, gone_in, opened, open_in}
 use Rattle.gm_model.specs.ObjState.{Xbar, XbarState, SideLayer}
@@ -26,7 +24,7 @@ next_is us p ahead (x ∷ xs) Waits = refl
 
 one_less : (us : List PortUse) (p ahead : ℕ) (items : List Queued) (out : OutState) (waiting : List ℕ)
     → (let l : SideLayer = record { lane = record { flow = record { items = items; out = out }; waiting = waiting }; ahead = ahead } in
-       one_less_ahead us p l ≡ (if is_behind us p items out then record l { ahead = ahead - 1 } else l))
+    one_less_ahead us p l ≡ (if is_behind us p items out then record l { ahead = ahead - 1 } else l))
 one_less us p ahead [] out waiting = refl
 one_less us p ahead (x ∷ xs) Quiet waiting = refl
 one_less us p ahead (x ∷ xs) Due waiting = refl

@@ -12,8 +12,8 @@ ghost use Rattle.obj_core.specs.Handles.{handles_from};
 use crate::lane::Lane;
 use ev_queue::{EventHandle, EventQueue};
 use gc_base::{NoMemory, ObjId, SlotNo, Tick};
-use gm_words::port_use;
 use gm_model::{Packet, PortUse};
+use gm_words::port_use;
 use std::alloc::Global;
 use std::marker::Model;
 
@@ -90,7 +90,8 @@ impl Ports {
     /// The layer of a request, by its address.
     #[tactic(auto, unfolding(gm_model::specs::Xbar::layer_for))]
     pub(crate) fn way_of(&self, p: &Packet) -> usize
-        ensures { result ≡ layer_for self.now.uses p.now false }
+        ensures value { result ≡ layer_for self.now.uses p.now false }
+        ensures most { result ≤ length self.now.uses }
     {
         match port_use::port_for(&self.uses, p.addr) {
             Some(port) if port < self.uses.len() => port,
@@ -99,8 +100,10 @@ impl Ports {
     }
 
     /// The port at which a response goes out.
+    #[tactic(auto, using(crate::proofs::LayerLemmas::source_below))]
     pub(crate) fn source_of(&self, p: &Packet) -> usize
-        ensures { result ≡ source_port self.now.uses (top_port p.now) }
+        ensures value { result ≡ source_port self.now.uses (top_port p.now) }
+        ensures there { 0 < length self.now.uses → result < length self.now.uses }
     {
         port_use::source_port(&self.uses, p.top_port().0 as usize)
     }
