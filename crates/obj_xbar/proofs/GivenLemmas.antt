@@ -21,7 +21,8 @@ last_handle c s (suc n) =
     (ap (λ k. handles_from 0 c (s + 1) (replicate n c) ++ record { owner = 0; slot = k } ∷ []) (omega arith) ∙ last_handle c (s + 1) n
     ∙ rw (eq-eqb c c refl) refl))
 
-pub one_handle_more : (c s n m at : ℕ) (hs : List Handle) (h : Handle) → hs ≡ handles_from 0 c s (replicate n c) → h ≡ record { owner = 0; slot = at } → at ≡ s + n → m ≡ suc n
+pub one_handle_more : (c s n m at : ℕ) (hs : List Handle) (h : Handle) → hs ≡ handles_from 0 c s (replicate n c)
+    → h ≡ record { owner = 0; slot = at } → at ≡ s + n → m ≡ suc n
     → hs ++ h ∷ [] ≡ handles_from 0 c s (replicate m c)
 one_handle_more c s n m at hs h e f a l = rw e (rw f (rw a (rw l (last_handle c s n))))
 
@@ -39,20 +40,23 @@ given_still old new s (c ∷ cs) t h =
     let p = both (gave old 0 s c) (gave_from old 0 (s + 1) cs) h in
     all (gave new 0 s c) (gave_from new 0 (s + 1) cs) (t 0 s c p.0) (given_still old new (s + 1) cs t p.1)
 
-last_given : (t : List Slot) (c s n : ℕ) → IsTrue (gave_from t 0 s (replicate n c)) → IsTrue (gave t 0 (s + n) c) → IsTrue (gave_from t 0 s (replicate (suc n) c))
+last_given : (t : List Slot) (c s n : ℕ) → IsTrue (gave_from t 0 s (replicate n c)) → IsTrue (gave t 0 (s + n) c)
+    → IsTrue (gave_from t 0 s (replicate (suc n) c))
 last_given t c s zero h g = all (gave t 0 s c) true (ap (λ k. gave t 0 k c) (omega arith) ∙ g) refl
 last_given t c s (suc n) h g =
     let p = both (gave t 0 s c) (gave_from t 0 (s + 1) (replicate n c)) h in
     all (gave t 0 s c) (gave_from t 0 (s + 1) (replicate (suc n) c)) p.0 (last_given t c (s + 1) n p.1 (ap (λ k. gave t 0 k c) (omega arith) ∙ g))
 
-pub one_given_more : (old new : List Slot) (c s n m at : ℕ) → Stay old new → IsTrue (gave_from old 0 s (replicate n c)) → IsTrue (gave new 0 at c) → at ≡ s + n → m ≡ suc n
+pub one_given_more : (old new : List Slot) (c s n m at : ℕ) → Stay old new → IsTrue (gave_from old 0 s (replicate n c)) → IsTrue (gave new 0 at c)
+    → at ≡ s + n → m ≡ suc n
     → IsTrue (gave_from new 0 s (replicate m c))
 one_given_more old new c s n m at t h g a l =
     rw l (last_given new c s n (given_still old new s (replicate n c) t h) (ap (λ k. gave new 0 k c) (sym a) ∙ g))
 
 -- The slots of a crossbar.
 
-given_both : (t : List Slot) (s a b : ℕ) → IsTrue (gave_from t 0 s (replicate a 10)) → IsTrue (gave_from t 0 (s + a) (replicate b 0)) → IsTrue (gave_from t 0 s (replicate a 10 ++ replicate b 0))
+given_both : (t : List Slot) (s a b : ℕ) → IsTrue (gave_from t 0 s (replicate a 10)) → IsTrue (gave_from t 0 (s + a) (replicate b 0))
+    → IsTrue (gave_from t 0 s (replicate a 10 ++ replicate b 0))
 given_both t s zero b h k = ap (λ j. gave_from t 0 j (replicate b 0)) (omega arith) ∙ k
 given_both t s (suc a) b h k =
     let p = both (gave t 0 s 10) (gave_from t 0 (s + 1) (replicate a 10)) h in
@@ -81,7 +85,8 @@ pub record AreCounted (us : List PortUse) (a b : ℕ) : Type 0 where
 pub counted : (us vs : List PortUse) (a m b : ℕ) → us ≡ vs → a ≡ behind us + sides us → m ≡ fore us → b ≡ m → AreCounted vs a b
 counted us vs a m b e f g h = subst (λ (ws : List PortUse). AreCounted ws a b) e (record { requests = f; responses = h ∙ g })
 
-pub response_part : (us : List PortUse) (a b : ℕ) (hs : List Handle) → AreCounted us a b → hs ≡ handles_from 0 0 a (replicate b 0) → hs ≡ handles_from 0 0 0 (xbar_classes us)
+pub response_part : (us : List PortUse) (a b : ℕ) (hs : List Handle) → AreCounted us a b → hs ≡ handles_from 0 0 a (replicate b 0)
+    → hs ≡ handles_from 0 0 0 (xbar_classes us)
 response_part us a b hs n h =
     rw (← n.requests) (rw (← n.responses) (h ∙ only_responses 0 a b ∙ ap (λ k. run 0 k b) (omega arith) ∙ sym (behind_requests 0 0 a b)))
 
@@ -97,7 +102,8 @@ all_given us a b d old new n h t k e =
     rw (← n.requests) (rw (← n.responses) (given_both new 0 a b r (ap (λ j. gave_from new 0 j (replicate b 0)) (omega arith) ∙ k)))
 
 -- a table that stays as it is
-pub given_there : (us : List PortUse) (old new : List Slot) → new ≡ old → IsTrue (gave_from old 0 0 (xbar_classes us)) → IsTrue (gave_from new 0 0 (xbar_classes us))
+pub given_there : (us : List PortUse) (old new : List Slot) → new ≡ old → IsTrue (gave_from old 0 0 (xbar_classes us))
+    → IsTrue (gave_from new 0 0 (xbar_classes us))
 given_there us old new e h = ap (λ (t : List Slot). gave_from t 0 0 (xbar_classes us)) e ∙ h
 
 pub device_part : (us : List PortUse) (hs : List Handle) → hs ≡ [] → hs ≡ handles_from 0 30 0 (xbar_classes us)

@@ -8,6 +8,7 @@ use Rattle.gm_words.specs.PortUses.{fore, behind, sides, xbar_classes, slot_of_p
 use Rattle.gm_words.specs.Slots.{gave_from}
 use Rattle.gm_words.specs.declared.port_use.PortUse.{PortUse}
 use Rattle.obj_core.specs.Handles.{handles_from}
+use Rattle.obj_core.proofs.StepLemmas.{put_flow, put_changes}
 
 -- so many handles, of slots one after another
 abbrev pub run : ℕ → ℕ → ℕ → List Handle
@@ -111,9 +112,11 @@ class_before us p l = rw (lt-ltb p (fore us) l) refl
 pub class_after : (us : List PortUse) (p : ℕ) → fore us ≤ p → class_of_port us p ≡ 10
 class_after us p l = rw (le-ltb p (fore us) l) refl
 
-pub layer_given : (t : List Slot) (o : ℕ) (us : List PortUse) (p : ℕ) → IsTrue (gave_from t o 0 (xbar_classes us)) → p < fore us → IsTrue (gave t o (slot_of_port us p) 0)
-layer_given t o us p g l = rw (slot_before us p l) (response_given t o us p g l)
-
 -- where some address has no port, the layer of no port has a slot
 pub side_there : (us : List PortUse) → is_total us ≡ false → behind us < behind us + sides us
 side_there us h = rw h (omega arith)
+
+-- what a packet that comes into a layer rests on: which handle is used there, and that it was given
+pub ruleset into_layer = (slot_before, slot_after, class_before, class_after, response_given, request_given, put_flow, put_changes)
+
+pub ruleset into_side = (side_there, request_given, put_flow, put_changes)

@@ -23,7 +23,8 @@ first_there k (u ∷ us) = by (is_source u) (first_there (suc k) us) where
   more None h = tt
   more (Some q) h = omega (arith, h)
 
-  by : (b : Bool) → IfSome (source_from (suc k) us) (λ q. q < suc k + length us) → IfSome (if b then Some k else source_from (suc k) us) (λ q. q < k + suc (length us))
+  by : (b : Bool) → IfSome (source_from (suc k) us) (λ q. q < suc k + length us)
+      → IfSome (if b then Some k else source_from (suc k) us) (λ q. q < k + suc (length us))
   by true h = omega arith
   by false h = more (source_from (suc k) us) h
 
@@ -79,7 +80,8 @@ port_there k (u ∷ us) a = by (takes u a) (port_there (suc k) us a) where
   more None h = tt
   more (Some q) h = omega (arith, h)
 
-  by : (b : Bool) → IfSome (port_from (suc k) us a) (λ q. q < suc k + length us) → IfSome (if b then Some k else port_from (suc k) us a) (λ q. q < k + suc (length us))
+  by : (b : Bool) → IfSome (port_from (suc k) us a) (λ q. q < suc k + length us)
+      → IfSome (if b then Some k else port_from (suc k) us a) (λ q. q < k + suc (length us))
   by true h = omega arith
   by false h = more (port_from (suc k) us a) h
 

@@ -34,7 +34,8 @@ module _ (object : ℕ) (ports : List PortUse) (s : XbarState) (h : IsXbar objec
   beside (x ∷ xs) Waits = h
 
   fired : (slot : ℕ) (b : Bool)
-      → IsXbar object ports (if b then side_event s next now s.side.lane.flow.items s.side.lane.flow.out else xbar_event s next (port_of_slot s.ports slot)).state
+      → IsXbar object ports
+      (if b then side_event s next now s.side.lane.flow.items s.side.lane.flow.out else xbar_event s next (port_of_slot s.ports slot)).state
   fired slot true = beside s.side.lane.flow.items s.side.lane.flow.out
   fired slot false = h
 
@@ -55,7 +56,8 @@ module _ (object : ℕ) (ports : List PortUse) (s : XbarState) (h : IsXbar objec
   stays_xbar (wakes.Line bit level) = h
   stays_xbar (wakes.AtomicDone x latency) = h
 
-woken : (object : ℕ) (ports : List PortUse) (o : ObjState) (next : ℕ) (w : Wake) (now : ℕ) → IsXbar object ports o → IsXbar object ports (object_step o next w now).state
+woken : (object : ℕ) (ports : List PortUse) (o : ObjState) (next : ℕ) (w : Wake) (now : ℕ) → IsXbar object ports o
+    → IsXbar object ports (object_step o next w now).state
 unfolding object_step
 woken object ports (Blank k) next w now h = absurd (cc)
 woken object ports (AtomicCpu s) next w now h = absurd (cc)
@@ -63,7 +65,8 @@ woken object ports (TimingCpu s) next w now h = absurd (cc)
 woken object ports (Xbar s) next w now h = stays_xbar object ports s h next now w
 woken object ports (Server s) next w now h = absurd (cc)
 
-passed_by : (object : ℕ) (ports : List PortUse) (s : XbarState) (p : Packet) (n : ℕ) (b : Bool) → IsXbar object ports (Xbar s) → IsXbar object ports (xbar_atomic_at s p n b).state
+passed_by : (object : ℕ) (ports : List PortUse) (s : XbarState) (p : Packet) (n : ℕ) (b : Bool) → IsXbar object ports (Xbar s)
+    → IsXbar object ports (xbar_atomic_at s p n b).state
 passed_by object ports s p n true h = h
 passed_by object ports s p n false h = h
 
@@ -76,8 +79,10 @@ passed object ports (Xbar s) p now h = passed_by object ports s p (layer_for s.p
 passed object ports (Server s) p now h = absurd (cc)
 
 -- what a call leaves is that crossbar too
-pub still_xbar : (object : ℕ) (ports : List PortUse) (o o' : ObjState) (next : ℕ) (w : Wake) (now : ℕ) → IsXbar object ports o → o' ≡ (object_step o next w now).state → IsXbar object ports o'
+pub still_xbar : (object : ℕ) (ports : List PortUse) (o o' : ObjState) (next : ℕ) (w : Wake) (now : ℕ) → IsXbar object ports o
+    → o' ≡ (object_step o next w now).state → IsXbar object ports o'
 still_xbar object ports o o' next w now h e = subst (λ x. IsXbar object ports x) (sym e) (woken object ports o next w now h)
 
-pub still_passing : (object : ℕ) (ports : List PortUse) (o o' : ObjState) (p : Packet) (now : ℕ) → IsXbar object ports o → o' ≡ (atomic_step o p now).state → IsXbar object ports o'
+pub still_passing : (object : ℕ) (ports : List PortUse) (o o' : ObjState) (p : Packet) (now : ℕ) → IsXbar object ports o
+    → o' ≡ (atomic_step o p now).state → IsXbar object ports o'
 still_passing object ports o o' p now h e = subst (λ x. IsXbar object ports x) (sym e) (passed object ports o p now h)

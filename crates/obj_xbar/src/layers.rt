@@ -238,7 +238,7 @@ impl Layers {
     }
 
     /// The offer at a port was taken: the first that waits for its layer is called, or it is the layer of no port.
-    #[tactic(auto, using(crate::proofs::StepLemmas::next_is, crate::proofs::StepLemmas::less_ahead, crate::proofs::StepLemmas::same_ahead, crate::proofs::StepLemmas::opened_one))]
+    #[tactic(auto, using(crate::proofs::StepLemmas::once_gone))]
     fn taken(&mut self, port: PortNo, now: Tick, q: &mut EventQueue, out: &mut Outbox)
         requires port { port.0 < length self.old.ports.uses }
         requires tick { now ≤ TOP }

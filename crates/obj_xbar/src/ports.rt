@@ -125,7 +125,7 @@ impl Ports {
     // Packets in.
 
     /// Takes a packet into the free place of a port's layer, which is offered at a tick.
-    #[tactic(auto, using(crate::proofs::HandleLemmas::slot_before, crate::proofs::HandleLemmas::slot_after, crate::proofs::HandleLemmas::class_before, crate::proofs::HandleLemmas::class_after, crate::proofs::HandleLemmas::response_given, crate::proofs::HandleLemmas::request_given, obj_core::proofs::StepLemmas::put_flow, obj_core::proofs::StepLemmas::put_changes))]
+    #[tactic(auto, using(crate::proofs::HandleLemmas::into_layer))]
     pub(crate) fn put(&self, port: usize, lane: &mut Lane, p: &Packet, at: Tick, q: &mut EventQueue)
         requires port { port < length self.now.uses }
         requires room { IsTrue (has_room 1 lane.old) }
@@ -150,7 +150,7 @@ impl Ports {
     }
 
     /// Takes a packet into the free place of the layer of no port.
-    #[tactic(auto, using(crate::proofs::HandleLemmas::side_there, crate::proofs::HandleLemmas::request_given, obj_core::proofs::StepLemmas::put_flow, obj_core::proofs::StepLemmas::put_changes))]
+    #[tactic(auto, using(crate::proofs::HandleLemmas::into_side))]
     pub(crate) fn put_beside(&self, side: &mut Lane, p: &Packet, at: Tick, q: &mut EventQueue)
         requires sided { IsFalse (is_total self.now.uses) }
         requires room { IsTrue (has_room 1 side.old) }

@@ -25,11 +25,12 @@ fn small(rt: &impl Abort, row: &mut SplitWhitespace<'_>) -> u8 {
 
 fn cmd(rt: &impl Abort, row: &mut SplitWhitespace<'_>) -> Cmd {
     match word(rt, row) {
+        "Read" => Cmd::Read,
         "Write" => Cmd::Write,
         "WriteBack" => Cmd::WriteBack,
         "ReadResp" => Cmd::ReadResp,
         "WriteResp" => Cmd::WriteResp,
-        _ => Cmd::Read,
+        word => panic!(rt; "no command {word}"),
     }
 }
 
@@ -77,7 +78,8 @@ pub(super) fn wake(rt: &impl Abort, verb: &str, row: &mut SplitWhitespace<'_>) -
         "taken" => Wake::Taken { port },
         "refused" => Wake::Refused { port },
         "retry" => Wake::Retry { port },
-        _ => Wake::Event { slot: SlotNo(n) },
+        "event" => Wake::Event { slot: SlotNo(n) },
+        verb => panic!(rt; "no wake {verb}"),
     }
 }
 

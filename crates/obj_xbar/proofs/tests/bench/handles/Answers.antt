@@ -5,8 +5,9 @@ use Rattle.obj_xbar.proofs.tests.bench.handles.Goals as goal
 pub loop-slot-preserved : goal.loop-slot-preserved
 loop-slot-preserved g c =
     let i = c.loop-slot.invariant in
+    let h = c.handle.ensures in
     record {
-      handles = c.in_ok-push.ensures.items ∙ one_handle_more g.row.CLASS c.args.from _ _ _ _ _ i.handles c.handle.ensures.handle (omega arith) (omega arith);
-      given = one_given_more c.loop-slot.queue.table _ g.row.CLASS c.args.from _ _ _ c.handle.ensures.once.stay i.given c.handle.ensures.once.given (omega arith) (omega arith);
-      stay = λ o s k h. c.handle.ensures.once.stay o s k (i.stay o s k h);
+      handles = c.in_ok-push.ensures.items ∙ one_handle_more g.row.CLASS c.args.from _ _ _ _ _ i.handles h.handle (omega arith) (omega arith);
+      given = one_given_more c.loop-slot.queue.table _ g.row.CLASS c.args.from _ _ _ h.once.stay i.given h.once.given (omega arith) (omega arith);
+      stay = λ o s k e. h.once.stay o s k (i.stay o s k e);
     }
