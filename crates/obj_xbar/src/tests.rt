@@ -18,7 +18,7 @@ use std::test::Fail;
 /// its packet, and behind ` = ` what comes of it: the answer, what is asked for, whether a refusal was noted, the events that are
 /// pending then as `slot@tick`, and `drained` where it is. A packet is its number, command and address, the ports that it came by,
 /// and, where it comes out, two of its bytes, the first and the eighth: those of a new one are its number and the seven that follow it.
-static ROWS: [&str; 83] = [
+static ROWS: [&str; 95] = [
     // The fetch is in the layer of port 3; a data access is refused twice and waits once, and a packet of nobody's behind it.
     "10 offer 0 1 Read 80000000 - = Taken; 0@110",
     "20 offer 1 2 Read 80000010 - = Refused; noted; 0@110",
@@ -113,6 +113,19 @@ static ROWS: [&str; 83] = [
     // A stack that is full stays as it is.
     "170 offer 0 30 Read 80000000 12345670 = Taken; 0@190",
     "190 event 0 = Nothing; offer 1: 30 Read 80000000 [1, 2, 3, 4, 5, 6, 7, 0] 30 37",
+    // Three offers at one tick, by ports 2, 0 and 1 in turn: one is taken, and the others wait in the order in which they were refused.
+    "corebus",
+    "1000 offer 2 1 Read 80000000 - = Taken; 0@1100",
+    "1000 offer 0 2 Read 80000004 - = Refused; noted; 0@1100",
+    "1000 offer 1 3 Read 80000008 - = Refused; noted; 0@1100",
+    "1100 event 0 = Nothing; offer 3: 1 Read 80000000 [2] 1 8",
+    "1100 taken 3 = Nothing; call 0",
+    "1100 offer 0 2 Read 80000004 - = Taken; 0@1200",
+    "1200 event 0 = Nothing; offer 3: 2 Read 80000004 [0] 2 9",
+    "1200 taken 3 = Nothing; call 1; drained",
+    "1200 offer 1 3 Read 80000008 - = Taken; 0@1300",
+    "1300 event 0 = Nothing; offer 3: 3 Read 80000008 [1] 3 10",
+    "1300 taken 3 = Nothing; drained",
 ];
 
 /// What comes of a row.
@@ -155,7 +168,9 @@ fn came_of(rt: &impl Abort, alloc: Global, bench: &mut Bench, given: &str) -> Re
 fn crossbars_go_by_the_rule(rt: HostRuntime) -> Result<(), Fail> {
     let mut bench = Bench::corebus(&rt, rt.alloc())?;
     for row in &ROWS {
-        if *row == "membus" {
+        if *row == "corebus" {
+            bench = Bench::corebus(&rt, rt.alloc())?;
+        } else if *row == "membus" {
             bench = Bench::membus(&rt, rt.alloc())?;
         } else {
             let (given, gives) = row.split_once(" = ").expect(&rt, "a row");
