@@ -19,12 +19,14 @@ room_free p ks room count places k n =
     let few : length ks < count = omega (arith, register_free (shown p ks count places) k.sound n, held_count p ks k.held) in
     (omega (arith, few, k.all, k.slab_room), omega (arith, few, k.keys_room))
 
-pub view_opened : (p s : Slab Entry) (ks : List ℕ) (count places j a first : ℕ) → AreHeld p ks → Updates p s j (Some (record { addr = a; targets = first ∷ [] }))
+pub view_opened : (p s : Slab Entry) (ks : List ℕ) (count places j a first : ℕ) → AreHeld p ks
+    → Updates p s j (Some (record { addr = a; targets = first ∷ [] }))
     → get p j ≡ None → shown s (ks ++ j ∷ []) count places ≡ opened j a first (shown p ks count places)
 view_opened p s ks count places j a first h u n =
     ap (λ rs. record { used = rs; count = count; places = places }) (come_in p s ks j (record { addr = a; targets = first ∷ [] }) u n h)
 
-pub kept_opened : (p s : Slab Entry) (ks : List ℕ) (room count places j a first : ℕ) → AreKept p ks room count places → is_full (shown p ks count places) ≡ false
+pub kept_opened : (p s : Slab Entry) (ks : List ℕ) (room count places j a first : ℕ) → AreKept p ks room count places
+    → is_full (shown p ks count places) ≡ false
     → key_of a (registers_of p ks) ≡ None → Updates p s j (Some (record { addr = a; targets = first ∷ [] })) → get p j ≡ None → slab_len s ≡ slab_len p + 1
     → s.capacity ≡ p.capacity → AreKept s (ks ++ j ∷ []) room count places
 kept_opened p s ks room count places j a first k n l u v more same =
@@ -48,7 +50,8 @@ pub record There (p : Slab Entry) (ks : List ℕ) (j : ℕ) : Type 0 where
   pub at : get p j ≡ Some entry
   pub targets : targets_of j (registers_of p ks) ≡ entry.targets
 
-pub there : (p : Slab Entry) (ks : List ℕ) (count places j : ℕ) (m : Registers) → AreHeld p ks → shown p ks count places ≡ m → is_open j m.used ≡ true → There p ks j
+pub there : (p : Slab Entry) (ks : List ℕ) (count places j : ℕ) (m : Registers) → AreHeld p ks → shown p ks count places ≡ m
+    → is_open j m.used ≡ true → There p ks j
 there p ks count places j m h v o = by (get p j) refl (present p ks j h used) where
   used : is_open j (registers_of p ks) ≡ true
   used = ap (λ (n : Registers). is_open j n.used) v ∙ o
@@ -63,14 +66,16 @@ targets_there p ks j t e h = let same : t.entry ≡ e = some (sym t.at ∙ sym h
   some q = cc
 
 -- it has room for one more target
-pub few_targets : (p : Slab Entry) (ks : List ℕ) (room count places j : ℕ) (m : Registers) → AreKept p ks room count places → shown p ks count places ≡ m → is_full m ≡ false
+pub few_targets : (p : Slab Entry) (ks : List ℕ) (room count places j : ℕ) (m : Registers) → AreKept p ks room count places
+    → shown p ks count places ≡ m → is_full m ≡ false
     → (t : There p ks j) → length t.entry.targets < places
 few_targets p ks room count places j m k v n t =
     omega (arith, place_free (shown p ks count places) j k.some k.sound (ap is_full v ∙ n), ap length t.targets)
 
 same_length : (p : Slab Entry) (j : ℕ) (r t : Entry) → get p j ≡ Some r → slab_len (with_value p j t) ≡ slab_len p
 same_length p j r t e =
-    omega (arith, sum_by-set (λ o. cond (is_some o) 1 0) p.slots j (Some t) None (ContainsKey-within p j (ap is_some e)), ap {B = ℕ} (λ o. cond (is_some o) 1 0) e)
+    let bit : Option Entry → ℕ = λ o. cond (is_some o) 1 0 in
+    omega (arith, sum_by-set bit p.slots j (Some t) None (ContainsKey-within p j (ap is_some e)), ap bit e)
 
 pub view_changed : (p : Slab Entry) (ks : List ℕ) (room count places j : ℕ) (r : Entry) (ts : List ℕ) → AreKept p ks room count places → get p j ≡ Some r
     → shown (with_value p j (record r { targets = ts })) ks count places ≡ record (shown p ks count places) { used = with_targets j ts (registers_of p ks) }
@@ -78,7 +83,8 @@ view_changed p ks room count places j r ts k e =
     ap (λ rs. record { used = rs; count = count; places = places })
     (changed p _ ks j r ts (Updates-with_value p j (record r { targets = ts }) (ap is_some e)) e k.held k.sound.apart)
 
-pub kept_changed : (p : Slab Entry) (ks : List ℕ) (room count places j : ℕ) (r : Entry) (ts : List ℕ) → AreKept p ks room count places → get p j ≡ Some r → length ts ≤ places
+pub kept_changed : (p : Slab Entry) (ks : List ℕ) (room count places j : ℕ) (r : Entry) (ts : List ℕ) → AreKept p ks room count places
+    → get p j ≡ Some r → length ts ≤ places
     → AreKept (with_value p j (record r { targets = ts })) ks room count places
 kept_changed p ks room count places j r ts k e l =
     record {

@@ -77,7 +77,8 @@ held_targets s (k ∷ ks) j r h o e = by (cases_eq k j) (λ p. held_targets s ks
 
 -- The slab changes at a key that is none of these.
 
-parts : (s : Slab Entry) (k : ℕ) (ks : List ℕ) (j : ℕ) → AreHeld s (k ∷ ks) → is_open j (registers_of s (k ∷ ks)) ≡ false → (k ≢ j) × (is_open j (registers_of s ks) ≡ false)
+parts : (s : Slab Entry) (k : ℕ) (ks : List ℕ) (j : ℕ) → AreHeld s (k ∷ ks) → is_open j (registers_of s (k ∷ ks)) ≡ false
+    → (k ≢ j) × (is_open j (registers_of s ks) ≡ false)
 parts s k ks j h n =
     let o = neither (k == j) (is_open j (registers_of s ks)) (sym (front_open j k (get s k) (registers_of s ks) h.0) ∙ n) in (differs k j o.0, o.1)
 
@@ -97,12 +98,14 @@ still_held p s (k ∷ ks) j o u h n =
 
 registers_append : (s : Slab Entry) (ks js : List ℕ) → registers_of s (ks ++ js) ≡ registers_of s ks ++ registers_of s js
 registers_append s [] js = refl
-registers_append s (k ∷ ks) js = ap (λ rs. with_front k (get s k) rs) (registers_append s ks js) ∙ front_append k (get s k) (registers_of s ks) (registers_of s js)
+registers_append s (k ∷ ks) js =
+    ap (λ rs. with_front k (get s k) rs) (registers_append s ks js) ∙ front_append k (get s k) (registers_of s ks) (registers_of s js)
 
 pub come_in : (p s : Slab Entry) (ks : List ℕ) (j : ℕ) (r : Entry) → Updates p s j (Some r) → get p j ≡ None → AreHeld p ks
     → registers_of s (ks ++ j ∷ []) ≡ registers_of p ks ++ record { key = j; address = r.addr; targets = r.targets } ∷ []
 come_in p s ks j r u n h =
-    registers_append s ks (j ∷ []) ∙ rw u.changed (ap (λ rs. rs ++ record { key = j; address = r.addr; targets = r.targets } ∷ []) (unseen p s ks j (Some r) u h (vacant p ks j h n)))
+    registers_append s ks (j ∷ []) ∙ rw u.changed (ap (λ rs. rs ++ record { key = j; address = r.addr; targets = r.targets } ∷ [])
+    (unseen p s ks j (Some r) u h (vacant p ks j h n)))
 
 held_append : (s : Slab Entry) (ks js : List ℕ) → AreHeld s ks → AreHeld s js → AreHeld s (ks ++ js)
 held_append s [] js h g = g
@@ -113,12 +116,14 @@ come_in_held p s ks j r u n h =
     held_append s ks (j ∷ []) (still_held p s ks j (Some r) u h (vacant p ks j h n)) (ap is_some u.changed, tt)
 
 -- the first key is none of the others
-first_alone : (p : Slab Entry) (k : ℕ) (ks : List ℕ) (j : ℕ) → AreHeld p (k ∷ ks) → AreApart (registers_of p (k ∷ ks)) → k ≡ j → is_open j (registers_of p ks) ≡ false
+first_alone : (p : Slab Entry) (k : ℕ) (ks : List ℕ) (j : ℕ) → AreHeld p (k ∷ ks) → AreApart (registers_of p (k ∷ ks)) → k ≡ j
+    → is_open j (registers_of p ks) ≡ false
 first_alone p k ks j h a f = subst (λ i. is_open i (registers_of p ks) ≡ false) f (front_apart k (get p k) (registers_of p ks) h.0 a).0
 
 -- One gets other targets.
 
-pub changed : (p s : Slab Entry) (ks : List ℕ) (j : ℕ) (r : Entry) (ts : List ℕ) → Updates p s j (Some (record r { targets = ts })) → get p j ≡ Some r → AreHeld p ks
+pub changed : (p s : Slab Entry) (ks : List ℕ) (j : ℕ) (r : Entry) (ts : List ℕ) → Updates p s j (Some (record r { targets = ts }))
+    → get p j ≡ Some r → AreHeld p ks
     → AreApart (registers_of p ks) → registers_of s ks ≡ with_targets j ts (registers_of p ks)
 changed p s [] j r ts u e h a = refl
 changed p s (k ∷ ks) j r ts u e h a = by (cases_eq k j) (changed p s ks j r ts u e h.1 (front_apart k (get p k) (registers_of p ks) h.0 a).1) where
@@ -170,6 +175,7 @@ gone_held p s (k ∷ ks) j u h a = by (cases_eq k j) (gone_held p s ks j u h.1 (
 pub less : (s : Slab Entry) (ks : List ℕ) (j : ℕ) → AreHeld s ks → is_open j (registers_of s ks) ≡ true → length (without_key j ks) + 1 ≡ length ks
 less s [] j h o = not_both (sym o)
 less s (k ∷ ks) j h o = by (cases_eq k j) (λ p. less s ks j h.1 p) where
-  by : (k ≡ j) ⊎ (k ≡ j → ⊥) → (is_open j (registers_of s ks) ≡ true → length (without_key j ks) + 1 ≡ length ks) → length (without_key j (k ∷ ks)) + 1 ≡ length (k ∷ ks)
+  by : (k ≡ j) ⊎ (k ≡ j → ⊥) → (is_open j (registers_of s ks) ≡ true → length (without_key j ks) + 1 ≡ length ks)
+      → length (without_key j (k ∷ ks)) + 1 ≡ length (k ∷ ks)
   by (inl f) g = rw (eq-eqb k j f) (omega arith)
   by (inr d) g = rw (ne_eqb k j d) (omega (arith, g (behind j k _ d (sym (front_open j k (get s k) (registers_of s ks) h.0) ∙ o))))

@@ -61,21 +61,24 @@ within_end n (x ∷ xs) r h l = (h.0, within_end n xs r h.1 l)
 pub same_lines : (a k : ℕ) (ts : List ℕ) (rs : List Register) → key_of a (with_targets k ts rs) ≡ key_of a rs
 same_lines a k ts [] = refl
 same_lines a k ts (x ∷ xs) = by (x.key == k) (same_lines a k ts xs) where
-  by : (b : Bool) → key_of a (with_targets k ts xs) ≡ key_of a xs → key_of a (if b then record x { targets = ts } ∷ xs else x ∷ with_targets k ts xs) ≡ key_of a (x ∷ xs)
+  by : (b : Bool) → key_of a (with_targets k ts xs) ≡ key_of a xs
+      → key_of a (if b then record x { targets = ts } ∷ xs else x ∷ with_targets k ts xs) ≡ key_of a (x ∷ xs)
   by true e = refl
   by false e = ap (λ o. if x.address == a then Some x.key else o) e
 
 pub same_open : (j k : ℕ) (ts : List ℕ) (rs : List Register) → is_open j (with_targets k ts rs) ≡ is_open j rs
 same_open j k ts [] = refl
 same_open j k ts (x ∷ xs) = by (x.key == k) (same_open j k ts xs) where
-  by : (b : Bool) → is_open j (with_targets k ts xs) ≡ is_open j xs → is_open j (if b then record x { targets = ts } ∷ xs else x ∷ with_targets k ts xs) ≡ is_open j (x ∷ xs)
+  by : (b : Bool) → is_open j (with_targets k ts xs) ≡ is_open j xs
+      → is_open j (if b then record x { targets = ts } ∷ xs else x ∷ with_targets k ts xs) ≡ is_open j (x ∷ xs)
   by true e = refl
   by false e = ap (λ o. (x.key == j) || o) e
 
 same_count : (k : ℕ) (ts : List ℕ) (rs : List Register) → length (with_targets k ts rs) ≡ length rs
 same_count k ts [] = refl
 same_count k ts (x ∷ xs) = by (x.key == k) (same_count k ts xs) where
-  by : (b : Bool) → length (with_targets k ts xs) ≡ length xs → length (if b then record x { targets = ts } ∷ xs else x ∷ with_targets k ts xs) ≡ length (x ∷ xs)
+  by : (b : Bool) → length (with_targets k ts xs) ≡ length xs
+      → length (if b then record x { targets = ts } ∷ xs else x ∷ with_targets k ts xs) ≡ length (x ∷ xs)
   by true e = refl
   by false e = omega (arith, e)
 

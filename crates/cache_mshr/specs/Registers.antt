@@ -38,7 +38,7 @@ abbrev pub without : ℕ → List Register → List Register
 without k [] = []
 without k (r ∷ rs) = if r.key == k then rs else r ∷ without k rs
 
--- a register holds so many targets
+-- one holds so many targets
 abbrev pub has_full : ℕ → List Register → Bool
 has_full n [] = false
 has_full n (r ∷ rs) = (length r.targets == n) || has_full n rs
@@ -77,7 +77,7 @@ abbrev pub AreWithin : ℕ → List Register → Type 0
 AreWithin n [] = Unit {0}
 AreWithin n (r ∷ rs) = (length r.targets ≤ n) × AreWithin n rs
 
--- the registers differ in line and key, are as many as there are at most, and none holds more targets than it has places for
+-- the open registers differ in line and key, no more are open than there are, and none holds more targets than it has places for
 pub record AreSound (m : Registers) : Type 0 where
   pub apart : AreApart m.used
   pub few : length m.used ≤ m.count

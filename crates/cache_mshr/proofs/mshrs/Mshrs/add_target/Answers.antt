@@ -17,7 +17,8 @@ invariant_of-self c =
     let t = there o.registers o.keys.items o.count o.targets c.args.reg _ i.held c.self.view_is c.requires.known in
     let few = few_targets o.registers o.keys.items _ o.count o.targets c.args.reg _ i c.self.view_is c.requires.room t in
     rw (c.push_target.ensures t.entry t.at)
-    (kept_changed o.registers o.keys.items _ o.count o.targets c.args.reg t.entry _ i t.at (omega (arith, few, length-append t.entry.targets (c.args.packet ∷ []))))
+    (kept_changed o.registers o.keys.items _ o.count o.targets c.args.reg t.entry _ i t.at
+    (omega (arith, few, length-append t.entry.targets (c.args.packet ∷ []))))
 
 pub returns-clause-joined : goal.returns-clause-joined
 returns-clause-joined c =

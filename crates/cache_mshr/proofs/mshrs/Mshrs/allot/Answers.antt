@@ -34,7 +34,8 @@ returns-clause-opened c =
     let o = c.self.inside in
     let put = c.insert_reserved-key.ensures in
     rw (← c.self.view_is) (rw c.push_reserved.ensures.items
-    (view_opened o.registers _ o.keys.items o.count o.targets c.insert_reserved-key.result c.args.addr c.args.first c.self.invariant.held (rw c.one.ensures at put.updates) put.was_vacant))
+    (view_opened o.registers _ o.keys.items o.count o.targets c.insert_reserved-key.result c.args.addr c.args.first c.self.invariant.held
+    (rw c.one.ensures at put.updates) put.was_vacant))
 
 pub returns-clause-known : goal.returns-clause-known
 returns-clause-known c = ap (λ (m : Registers). is_open c.insert_reserved-key.result m.used) (returns-clause-opened c) ∙ last_open c.args.self.now.used _

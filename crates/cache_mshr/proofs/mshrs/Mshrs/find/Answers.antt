@@ -6,4 +6,5 @@ pub returns-then-entry-addr-clause-known : goal.returns-then-entry-addr-clause-k
 returns-then-entry-addr-clause-known c =
     let o = c.self.inside in
     let keys = c.deref-key-items.ensures.value in
-    rw (← c.self.view_is) (rw keys (held_open o.registers o.keys.items c.loop-key.key-index 0 c.self.invariant.held (omega (arith, c.loop-key-test.true, ap length keys))))
+    rw (← c.self.view_is) (rw keys
+    (held_open o.registers o.keys.items c.loop-key.key-index 0 c.self.invariant.held (omega (arith, c.loop-key-test.true, ap length keys))))

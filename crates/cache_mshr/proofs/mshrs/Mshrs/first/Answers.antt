@@ -12,7 +12,8 @@ invariant_of-self c =
     let t = there o.registers o.keys.items o.count o.targets c.args.reg _ i.held c.self.view_is c.requires in
     let few = targets_within o.targets c.args.reg (registers_of o.registers o.keys.items) i.sound.within in
     rw (c.take_target.ensures.rest t.entry t.at)
-    (kept_changed o.registers o.keys.items _ o.count o.targets c.args.reg t.entry _ i t.at (omega (arith, few, ap length t.targets, length-drop 1 t.entry.targets)))
+    (kept_changed o.registers o.keys.items _ o.count o.targets c.args.reg t.entry _ i t.at
+    (omega (arith, few, ap length t.targets, length-drop 1 t.entry.targets)))
 
 pub returns-clause-first : goal.returns-clause-first
 returns-clause-first c =
