@@ -1,0 +1,5 @@
+pub mod Orders
+pub mod Counts
+pub mod SoundLemmas
+pub mod UsedLemmas
+pub mod StoredLemmas

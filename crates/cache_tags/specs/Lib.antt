@@ -1,0 +1,4 @@
+pub mod Line
+pub mod Held
+pub mod Stored
+pub mod Kept
