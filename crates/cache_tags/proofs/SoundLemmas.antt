@@ -14,7 +14,7 @@ use Rattle.cache_tags.specs.Held.{Held, CacheSet, of_address, in_way, used, writ
 use Rattle.cache_tags.proofs.Counts.{bit, count_by-map, count_by-none, count_by-not_found, count_by-before}
 
 -- nothing stands from a place on
-past : {X : Type 0} (xs : List X) (i : ℕ) → slice_get xs i ≡ None → length xs ≤ i
+pub past : {X : Type 0} (xs : List X) (i : ℕ) → slice_get xs i ≡ None → length xs ≤ i
 past [] i e = omega arith
 past (x ∷ xs) zero e = absurd cc
 past (x ∷ xs) (suc i) e = omega (arith, past xs i e)
@@ -63,7 +63,7 @@ write_way w offset bytes h = by (h.way == w) where
   by true = refl
   by false = refl
 
-write_address : (w offset : ℕ) (bytes : List ℕ) (h : Held) → (write_in w offset bytes h).line.address ≡ h.line.address
+pub write_address : (w offset : ℕ) (bytes : List ℕ) (h : Held) → (write_in w offset bytes h).line.address ≡ h.line.address
 write_address w offset bytes h = by (h.way == w) where
   by : (b : Bool) → (cond b (record h { line = rewritten h.line offset bytes }) h).line.address ≡ h.line.address
   by true = refl

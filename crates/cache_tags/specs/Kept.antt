@@ -68,7 +68,11 @@ emptied t = empty (length t.sets) t.ways t.line
 abbrev pub nth_line : Kept → ℕ → ℕ → Option LineAt
 nth_line t s n = option_map (line_info s) (slice_get (set_at t s) n)
 
--- each set is sound, and its lines belong to it and begin at multiples of their size
+-- a line belongs to a set, and begins at a multiple of the size of lines
+abbrev pub BelongsTo : Kept → ℕ → Held → Type 0
+BelongsTo t s h = (set_of t h.line.address ≡ s) × (h.line.address % t.line ≡ 0)
+
+-- each set is sound, and its lines belong to it
 pub record IsSoundCache (t : Kept) : Type 0 where
   pub sound : (s : ℕ) → IsSoundSet (record { ways = t.ways; line = t.line; held = set_at t s })
-  pub own : (s : ℕ) → All (λ h. (set_of t h.line.address ≡ s) × (h.line.address % t.line ≡ 0)) (set_at t s)
+  pub own : (s : ℕ) → All (BelongsTo t s) (set_at t s)
