@@ -1,5 +1,5 @@
 -- Counting in lists.
-use Rattle.std.proofs.Common.{◌≡◌, ℕ, suc, ◌+◌, ◌<◌, ◌≤◌, Bool, true, false, cond, List, [], ◌∷◌, ◌++◌, length, get_or, take, drop, map, refl, sym, ◌∙◌, ap, arith, Option, Some, None}
+use Rattle.std.proofs.Common.{◌≡◌, ℕ, suc, ◌+◌, ◌<◌, ◌≤◌, Bool, true, false, cond, List, [], ◌∷◌, ◌++◌, length, get_or, take, drop, map, refl, sym, ◌∙◌, ap, subst, arith, Option, Some, None}
 use Rattle.std.specs.Prelude.{find, count_by, All, slice_get}
 use Rattle.std.specs.List.{sum_by}
 use Rattle.std.proofs.lemmas.List.Sums.{sum_by-cons, sum_by-take-drop, sum_by-drop_more}
@@ -44,3 +44,11 @@ count_by-before {X = X} p xs i x e t =
     let at : get_or xs i x ≡ x = get_or_from_slice_get xs i x x e in
     let one : f (get_or xs i x) ≡ 1 = ap f at ∙ ap (λ (b : Bool). cond b 1 0) t in
     omega (arith, one, sum_by-take-drop f xs i, sum_by-drop_more f xs i x (slice_get_within xs i x e))
+
+-- what holds of all holds of what is found
+pub All-found : {X : Type 0} (P : X → Type 0) (p : X → Bool) (xs : List X) (x : X) → All P xs → find p xs ≡ Some x → P x
+All-found P p [] x all e = absurd cc
+All-found {X = X} P p (y ∷ ys) x all e = by (All-found P p ys x (All-tail P y ys all)) (p y) e where
+  by : (find p ys ≡ Some x → P x) → (b : Bool) → cond b (Some y) (find p ys) ≡ Some x → P x
+  by more true k = let same : y ≡ x = cc in subst P same (All-head P y ys all)
+  by more false k = more k

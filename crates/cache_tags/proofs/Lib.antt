@@ -5,3 +5,5 @@ pub mod UsedLemmas
 pub mod StoredLemmas
 pub mod PowerLemmas
 pub mod StoreLemmas
+pub mod PlainLemmas
+pub mod PlaceLemmas

@@ -57,7 +57,7 @@ used_sound s w ok = moved_sound s (used w s.held) (used_permutes w s.held) ok
 pub length-put_at : (bytes : List ℕ) (offset : ℕ) (others : List ℕ) → offset + length others ≤ length bytes → length (put_at bytes offset others) ≡ length bytes
 length-put_at bytes offset others h = simp (length-append, length-take, length-drop) (omega arith)
 
-write_way : (w offset : ℕ) (bytes : List ℕ) (h : Held) → (write_in w offset bytes h).way ≡ h.way
+pub write_way : (w offset : ℕ) (bytes : List ℕ) (h : Held) → (write_in w offset bytes h).way ≡ h.way
 write_way w offset bytes h = by (h.way == w) where
   by : (b : Bool) → (cond b (record h { line = rewritten h.line offset bytes }) h).way ≡ h.way
   by true = refl

@@ -12,8 +12,8 @@ use Rattle.std.proofs.lemmas.Option.{slice_get_past}
 use Rattle.cache_tags.specs.declared.place.Place.{Place}
 use Rattle.cache_tags.specs.declared.place.Victim.{Victim}
 use Rattle.cache_tags.specs.Line.{Line}
-use Rattle.cache_tags.specs.Held.{Held, CacheSet, victim, leaving, in_way, used, write_in, written_in, with_line, IsSoundSet}
-use Rattle.cache_tags.specs.Kept.{Kept, empty, installed, base_of, set_of, set_at, with_set, line_at, BelongsTo, IsSoundCache}
+use Rattle.cache_tags.specs.Held.{Held, CacheSet, victim, leaving, of_address, in_way, used, write_in, written_in, with_line, IsSoundSet}
+use Rattle.cache_tags.specs.Kept.{Kept, empty, found, installed, base_of, set_of, set_at, with_set, line_at, BelongsTo, IsSoundCache}
 use Rattle.cache_tags.specs.Store.{stored_cache, IsStoredCache}
 use Rattle.cache_tags.proofs.SoundLemmas.{past, empty_sound, used_permutes, write_address}
 
@@ -139,6 +139,24 @@ module _ (ways size shift mask : ℕ) (sets : List CacheSet) (ok : IsStoredCache
           alike = All-set (λ s. (s.ways ≡ ways) × (s.line ≡ size)) sets i s' alike ok.alike;
           sound = rw set_stored (changed_sound t i hs (omega (arith, within, length-map sets (λ (s : CacheSet). s.held))) ok.sound (subst IsSoundSet whole sound) own);
         }
+
+  pub held_at : (b a i : ℕ) (s : CacheSet) → i ≡ set_of (stored_cache ways size sets) a → s ≡ get_or sets i s
+      → of_address b s.held ≡ of_address b (set_at (stored_cache ways size sets) (set_of (stored_cache ways size sets) a))
+  held_at b a i s number read =
+      let within : i < length sets = omega (arith, number, picked_within a) in
+      ap (of_address b) (sym (set_read i s within read) ∙ ap (set_at (stored_cache ways size sets)) number)
+
+  -- the place of what is found in the set
+  pub found_stored : (a i base : ℕ) (s : CacheSet) (r : Option ℕ) → i ≡ set_of (stored_cache ways size sets) a → base ≡ base_of (stored_cache ways size sets) a → s ≡ get_or sets i s
+      → r ≡ option_map (λ h. h.way) (of_address base s.held) → option_map (λ w. let p : Place = record { set = i; way = w } in p) r ≡ found (stored_cache ways size sets) a
+  found_stored a i base s r number start read e =
+      let t : Kept = stored_cache ways size sets in
+      let there : of_address base s.held ≡ of_address (base_of t a) (set_at t (set_of t a)) = ap (λ b. of_address b s.held) start ∙ held_at (base_of t a) a i s number read in
+      ap (option_map (λ w. let p : Place = record { set = i; way = w } in p)) (e ∙ ap (option_map (λ (h : Held). h.way)) there)
+      ∙ (by (of_address (base_of t a) (set_at t (set_of t a))) ∙ ap (λ n. option_map (λ (h : Held). let p : Place = record { set = n; way = h.way } in p) (of_address (base_of t a) (set_at t (set_of t a)))) number) where
+        by : (o : Option Held) → option_map (λ w. let p : Place = record { set = i; way = w } in p) (option_map (λ (h : Held). h.way) o) ≡ option_map (λ (h : Held). let p : Place = record { set = i; way = h.way } in p) o
+        by None = refl
+        by (Some h) = refl
 
   -- a line comes into the set of its address
   module _ (l : Line) (i : ℕ) (s s' : CacheSet) (number : i ≡ set_of (stored_cache ways size sets) l.address) (read : s ≡ get_or sets i s)

@@ -31,18 +31,18 @@ module _ {X : Type 0} (p : X → Bool) where
 
   -- the one that passes stands between those that don't
   module _ (front back : List X) (x : X) (passes : p x ≡ true) (one : count_by p (front ++ x ∷ back) ≤ 1) where
-    none : (count_by p front ≡ 0) × (count_by p back ≡ 0)
-    none =
+    pub others_fail : (count_by p front ≡ 0) × (count_by p back ≡ 0)
+    others_fail =
         let g : X → ℕ = λ x. cond (p x) 1 0 in
         let is : g x ≡ 1 = ap (λ (b : Bool). bit b) passes in
         let all : count_by p (front ++ x ∷ back) ≡ count_by p front + (g x + count_by p back) = sum_by-append g front (x ∷ back) ∙ ap (λ n. sum_by g front + n) (sum_by-cons g x back) in
         (omega (arith, one, all, is), omega (arith, one, all, is))
 
     pub filter-one : filter p (front ++ x ∷ back) ≡ x ∷ []
-    filter-one = rw (filter-append p front (x ∷ back), filter-none front none.0) (rw (passes, filter-none back none.1) refl)
+    filter-one = rw (filter-append p front (x ∷ back), filter-none front others_fail.0) (rw (passes, filter-none back others_fail.1) refl)
 
     pub filter-others : filter (λ x. not (p x)) (front ++ x ∷ back) ≡ front ++ back
-    filter-others = rw (filter-append (λ x. not (p x)) front (x ∷ back), filter-all front none.0) (rw (passes, filter-all back none.1) refl)
+    filter-others = rw (filter-append (λ x. not (p x)) front (x ∷ back), filter-all front others_fail.0) (rw (passes, filter-all back others_fail.1) refl)
 
 -- the line in a way, which stands between others, comes to the front
 pub used-between : (w : ℕ) (front back : List Held) (h : Held) → h.way ≡ w → count_by (λ h. h.way == w) (front ++ h ∷ back) ≤ 1 → used w (front ++ h ∷ back) ≡ h ∷ (front ++ back)

@@ -1,5 +1,5 @@
 -- What a cache keeps: its sets, and in each of them lines, the most recently used first. This project's own rules.
-use Rattle.std.specs.Prelude.{ℕ, ◌≡◌, ◌+◌, ◌-◌, ◌/◌, ◌%◌, ◌<◌, ◌≤◌, Bool, List, [], length, map, replicate, slice_index_or, slice_set, slice_get, All, Option}
+use Rattle.std.specs.Prelude.{ℕ, ◌≡◌, ◌≢◌, ◌==◌, ◌+◌, ◌-◌, ◌/◌, ◌%◌, ◌<◌, ◌≤◌, Bool, List, [], length, map, find, replicate, slice_index_or, slice_set, slice_get, All, Option}
 use Rattle.std.specs.Option.{option_map, option_and_then}
 use Rattle.cache_tags.specs.declared.place.Place.{Place}
 use Rattle.cache_tags.specs.declared.place.LineAt.{LineAt}
@@ -28,9 +28,21 @@ set_at t s = slice_index_or t.sets s []
 abbrev pub with_set : Kept → ℕ → List Held → Kept
 with_set t s hs = record t { sets = slice_set t.sets s hs }
 
+-- the lines of a set
+abbrev pub lines_at : Kept → ℕ → List Line
+lines_at t s = map (λ h. h.line) (set_at t s)
+
+-- the lines of all sets
+abbrev pub lines_of : Kept → List (List Line)
+lines_of t = map (λ hs. map (λ h. h.line) hs) t.sets
+
+-- the lines of all sets, with others in one set
+abbrev pub with_lines : Kept → ℕ → List Line → List (List Line)
+with_lines t s ls = slice_set (lines_of t) s ls
+
 -- the line that an address lies in, where it is kept
 abbrev pub line_of : Kept → ℕ → Option Line
-line_of t a = option_map (λ h. h.line) (of_address (base_of t a) (set_at t (set_of t a)))
+line_of t a = find (λ l. l.address == base_of t a) (lines_at t (set_of t a))
 
 -- the line at a place, where there is one
 abbrev pub line_at : Kept → Place → Option Line
@@ -67,6 +79,14 @@ emptied t = empty (length t.sets) t.ways t.line
 -- the n-th line of a set, the most recently used first
 abbrev pub nth_line : Kept → ℕ → ℕ → Option LineAt
 nth_line t s n = option_map (line_info s) (slice_get (set_at t s) n)
+
+-- at each place stands what stood there
+abbrev pub KeepsPlaces : Kept → Kept → Type 0
+KeepsPlaces old new = (p : Place) → line_at new p ≡ line_at old p
+
+-- at each other place stands what stood there
+abbrev pub KeepsOtherPlaces : Kept → Kept → Place → Type 0
+KeepsOtherPlaces old new at = (p : Place) → p ≢ at → line_at new p ≡ line_at old p
 
 -- a line belongs to a set, and begins at a multiple of the size of lines
 abbrev pub BelongsTo : Kept → ℕ → Held → Type 0

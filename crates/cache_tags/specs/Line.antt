@@ -23,3 +23,16 @@ padded bytes = bytes ++ replicate (64 - length bytes) 0
 abbrev pub without_line : ℕ → List Line → List Line
 without_line a [] = []
 without_line a (l ∷ ls) = if l.address == a then ls else l ∷ without_line a ls
+
+-- a line is used: it comes to the front, and the others stay in their order
+abbrev pub in_front : Line → List Line → List Line
+in_front l ls = l ∷ without_line l.address ls
+
+-- the line of its address is this one now
+abbrev pub in_place : Line → List Line → List Line
+in_place l [] = []
+in_place l (k ∷ ks) = (if k.address == l.address then l else k) ∷ in_place l ks
+
+-- a line comes into a set of so many ways: the least recently used line leaves where no way is free
+abbrev pub come_in : ℕ → Line → List Line → List Line
+come_in ways l ls = l ∷ take (ways - 1) ls

@@ -96,7 +96,8 @@ impl Set {
     /// The bytes of the line in a way.
     pub(crate) fn bytes(&self, way: u32) -> &[u8]
         requires { IsSome (in_way way self.now.held) }
-        ensures { option_map (λ h. h.line.bytes) (in_way way self.now.held) ≡ Some result.now }
+        ensures bytes { option_map (λ h. h.line.bytes) (in_way way self.now.held) ≡ Some result.now }
+        ensures whole { length result.now ≡ self.now.line }
     {
         &self.lines[way as usize].bytes[..self.line as usize]
     }

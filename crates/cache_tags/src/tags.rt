@@ -1,8 +1,9 @@
 // The lines of a cache.
-ghost use Rattle.std.specs.Prelude.{◌≡◌, ◌+◌, ◌^◌, ◌<◌, ◌≤◌, ◌%◌, ◌==◌, ◌||◌, ◌↔◌, length, IsTrue, IsSome, IsNone, IfSome, IfOk, Some, None};
+ghost use Rattle.std.specs.Prelude.{◌≡◌, ◌+◌, ◌^◌, ◌<◌, ◌≤◌, ◌%◌, ◌==◌, ◌||◌, ◌↔◌, length, IsTrue, IsSome, IsNone, IfSome, IfNone, IfOk, Some, None, slice_get};
 ghost use Rattle.std.specs.Option.{option_map};
 ghost use Rattle.std.specs.Int.{is_power_of_two};
-ghost use Rattle.cache_tags.specs.Kept.{base_of, set_of, set_at, line_of, line_at, found, touched, written, installed, victim_of, empty, emptied, nth_line, IsSoundCache};
+ghost use Rattle.cache_tags.specs.Line.{rewritten, in_front, in_place, come_in};
+ghost use Rattle.cache_tags.specs.Kept.{base_of, set_of, set_at, lines_at, lines_of, with_lines, line_of, line_at, found, touched, written, installed, victim_of, empty, emptied, nth_line, KeepsPlaces, KeepsOtherPlaces, IsSoundCache};
 
 use crate::place::{LineAt, Place, Victim};
 use crate::set::Set;
@@ -78,6 +79,9 @@ impl Tags {
     /// The place of the line that an address lies in, if it is there.
     pub fn find(&self, addr: u64) -> Option<Place>
         ensures found { result ≡ found self.now addr }
+        ensures there { IsSome result ↔ IsSome (line_of self.now addr) }
+        ensures line { IfSome result (λ at. IsSome (line_at self.now at) × (line_at self.now at ≡ line_of self.now addr)) }
+        ensures none { IfNone result (line_of self.now addr ≡ None) }
     {
         let set = self.set_of(addr);
         let way = self.sets[set as usize].find(self.base_of(addr))?;
@@ -88,6 +92,8 @@ impl Tags {
     pub fn touch(&mut self, at: Place)
         requires { IsSome (line_at self.old at) }
         ensures touched { self.new ≡ touched self.old at }
+        ensures lines { IfSome (line_at self.old at) (λ l. lines_of self.new ≡ with_lines self.old at.set (in_front l (lines_at self.old at.set))) }
+        ensures places { KeepsPlaces self.old self.new }
         ensures sound { IsSoundCache self.new }
     {
         self.sets[at.set as usize].touch(at.way);
@@ -96,7 +102,8 @@ impl Tags {
     /// The bytes of the line at a place.
     pub fn bytes(&self, at: Place) -> &[u8]
         requires { IsSome (line_at self.now at) }
-        ensures { option_map (λ l. l.bytes) (line_at self.now at) ≡ Some result.now }
+        ensures bytes { option_map (λ l. l.bytes) (line_at self.now at) ≡ Some result.now }
+        ensures whole { length result.now ≡ self.now.line }
     {
         self.sets[at.set as usize].bytes(at.way)
     }
@@ -106,6 +113,9 @@ impl Tags {
         requires place { IsSome (line_at self.old at) }
         requires fits { offset + length bytes.now ≤ self.old.line }
         ensures written { self.new ≡ written self.old at offset bytes.now }
+        ensures lines { IfSome (line_at self.old at) (λ l. lines_of self.new ≡ with_lines self.old at.set (in_place (rewritten l offset bytes.now) (lines_at self.old at.set))) }
+        ensures line { line_at self.new at ≡ option_map (λ l. rewritten l offset bytes.now) (line_at self.old at) }
+        ensures others { KeepsOtherPlaces self.old self.new at }
         ensures sound { IsSoundCache self.new }
     {
         self.sets[at.set as usize].write(at.way, offset as usize, bytes);
@@ -117,6 +127,7 @@ impl Tags {
         requires whole { length bytes.now ≡ self.old.line }
         requires absent { line_of self.old addr ≡ None }
         ensures installed { self.new ≡ installed self.old (record { address = addr; dirty = dirty; bytes = bytes.now }) }
+        ensures lines { lines_of self.new ≡ with_lines self.old (set_of self.old addr) (come_in self.old.ways (record { address = addr; dirty = dirty; bytes = bytes.now }) (lines_at self.old (set_of self.old addr))) }
         ensures victim { result ≡ victim_of self.old addr }
         ensures free { IsNone result ↔ (length (set_at self.old (set_of self.old addr)) < self.old.ways) }
         ensures sound { IsSoundCache self.new }
@@ -138,6 +149,7 @@ impl Tags {
     /// The n-th line of a set, the most recently used first, if there are so many.
     pub fn nth(&self, set: u32, n: u32) -> Option<LineAt>
         ensures nth { result ≡ nth_line self.now set n }
+        ensures line { IfSome result (λ l. IsSome (line_at self.now l.at) × (line_at self.now l.at ≡ slice_get (lines_at self.now set) n)) }
     {
         self.sets.get(set as usize)?.nth(set, n)
     }

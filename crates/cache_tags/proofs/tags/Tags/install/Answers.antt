@@ -1,5 +1,8 @@
-use Rattle.std.proofs.Common.{◌≡◌}
-use Rattle.cache_tags.proofs.StoreLemmas.{installed_stored, installed_kept, free_leaves_none}
+use Rattle.std.proofs.Common.{◌≡◌, ◌∙◌, subst}
+use Rattle.cache_tags.specs.Kept.{IsSoundCache}
+use Rattle.cache_tags.specs.Store.{stored_cache}
+use Rattle.cache_tags.proofs.StoreLemmas.{held_at, installed_stored, installed_kept, free_leaves_none}
+use Rattle.cache_tags.proofs.PlaceLemmas.{after_install_lines, absent_held}
 use Rattle.cache_tags.proofs.tags.Tags.install.Goals as goal
 
 pub returns-clause-installed : goal.returns-clause-installed
@@ -21,3 +24,14 @@ returns-clause-free c =
 
 pub returns-clause-sound : goal.returns-clause-sound
 returns-clause-sound c = (invariant_of-self c).sound
+
+pub returns-clause-lines : goal.returns-clause-lines
+returns-clause-lines c =
+    after_install_lines c.args.self.now _ (subst IsSoundCache c.self.view_is c.self.invariant.sound)
+    (record { address = c.args.addr; dirty = c.args.dirty; bytes = c.args.bytes.now }) (returns-clause-installed c)
+
+pub install-requires-clause-absent : goal.install-requires-clause-absent
+install-requires-clause-absent c =
+    let number = rw (← c.self.view_is) at c.set_of-set.ensures in
+    held_at _ _ _ _ _ c.self.invariant c.args.addr c.args.addr c.set_of-set.result c.index_mut.result.now number c.index_mut.ensures.value
+    ∙ absent_held (stored_cache c.self.inside.ways c.self.inside.line c.self.inside.sets.items) c.args.addr (rw (← c.self.view_is) at c.requires.base) (rw (← c.self.view_is) at c.requires.absent)

@@ -1,8 +1,9 @@
-use Rattle.std.proofs.Common.{◌≡◌, ◌∙◌, ap, sym}
+use Rattle.std.proofs.Common.{◌≡◌, ◌∙◌, ap, sym, subst}
 use Rattle.cache_tags.specs.Held.{CacheSet, used}
-use Rattle.cache_tags.specs.Kept.{set_at, with_set}
+use Rattle.cache_tags.specs.Kept.{set_at, with_set, IsSoundCache}
 use Rattle.cache_tags.specs.Store.{stored_cache}
 use Rattle.cache_tags.proofs.StoreLemmas.{place_stored, used_own, set_read, set_stored, set_kept}
+use Rattle.cache_tags.proofs.PlaceLemmas.{after_touch_lines, after_touch_places}
 use Rattle.cache_tags.proofs.tags.Tags.touch.Goals as goal
 
 pub returns-clause-touched : goal.returns-clause-touched
@@ -22,3 +23,9 @@ invariant_of-self c =
 
 pub returns-clause-sound : goal.returns-clause-sound
 returns-clause-sound c = (invariant_of-self c).sound
+
+pub returns-clause-lines : goal.returns-clause-lines
+returns-clause-lines c = after_touch_lines c.args.self.now _ (subst IsSoundCache c.self.view_is c.self.invariant.sound) c.args.at (returns-clause-touched c)
+
+pub returns-clause-places : goal.returns-clause-places
+returns-clause-places c = after_touch_places c.args.self.now _ (subst IsSoundCache c.self.view_is c.self.invariant.sound) c.args.at (returns-clause-touched c) c.requires

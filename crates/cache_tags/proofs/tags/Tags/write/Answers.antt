@@ -1,8 +1,9 @@
-use Rattle.std.proofs.Common.{◌≡◌, ◌∙◌, ap, sym}
+use Rattle.std.proofs.Common.{◌≡◌, ◌∙◌, ap, sym, subst}
 use Rattle.cache_tags.specs.Held.{CacheSet, written_in}
-use Rattle.cache_tags.specs.Kept.{set_at, with_set}
+use Rattle.cache_tags.specs.Kept.{set_at, with_set, IsSoundCache}
 use Rattle.cache_tags.specs.Store.{stored_cache}
 use Rattle.cache_tags.proofs.StoreLemmas.{place_stored, written_own, set_read, set_stored, set_kept}
+use Rattle.cache_tags.proofs.PlaceLemmas.{after_write_lines, after_write_line, after_write_others}
 use Rattle.cache_tags.proofs.tags.Tags.write.Goals as goal
 
 pub returns-clause-written : goal.returns-clause-written
@@ -22,3 +23,15 @@ invariant_of-self c =
 
 pub returns-clause-sound : goal.returns-clause-sound
 returns-clause-sound c = (invariant_of-self c).sound
+
+pub returns-clause-lines : goal.returns-clause-lines
+returns-clause-lines c =
+    after_write_lines c.args.self.now _ (subst IsSoundCache c.self.view_is c.self.invariant.sound) c.args.at c.args.offset c.args.bytes.now (returns-clause-written c)
+
+pub returns-clause-line : goal.returns-clause-line
+returns-clause-line c =
+    after_write_line c.args.self.now _ (subst IsSoundCache c.self.view_is c.self.invariant.sound) c.args.at c.args.offset c.args.bytes.now (returns-clause-written c) c.requires.place
+
+pub returns-clause-others : goal.returns-clause-others
+returns-clause-others c =
+    after_write_others c.args.self.now _ (subst IsSoundCache c.self.view_is c.self.invariant.sound) c.args.at c.args.offset c.args.bytes.now (returns-clause-written c) c.requires.place
