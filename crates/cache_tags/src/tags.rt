@@ -167,3 +167,6 @@ fn shift_of(line: u32) -> u32
         _ => 6,
     }
 }
+
+#[cfg(test)]
+mod tests;
