@@ -73,7 +73,8 @@ steps : (s : ServerState) (n next : ℕ) (w : Wake) (now : ℕ) → is_memory n 
 steps s n next (wakes.Event slot) now h =
     let e : (s.common.object == n) ≡ true = numbered _ _ h in
     let r : is_ram s.device ≡ true = kept _ _ h in
-    chosen n (slot.0 == serve_slot) (slot.0 == own_slot) (server_serves s next now s.flow.items s.flow.out) (server_event s next s.device) (stays (Server s) next)
+    chosen n (slot.0 == serve_slot) (slot.0 == own_slot)
+    (server_serves s next now s.flow.items s.flow.out) (server_event s next s.device) (stays (Server s) next)
     (serves s n next now s.flow.items s.flow.out e r) (after_event s n next s.device e r) h
 steps s n next (wakes.Offer port p) now h = h
 steps s n next (wakes.Taken port) now h = h

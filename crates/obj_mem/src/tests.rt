@@ -410,3 +410,18 @@ fn what_is_passed_at_once_is_served_at_once(rt: HostRuntime) -> Result<(), Fail>
     assert!(rt; past.fault);
     Ok(())
 }
+
+// By the rule: a write-back that isn't served yet is newer than RAM, and a read without time gives its bytes.
+#[test]
+fn a_read_without_time_sees_a_write_back_that_waits(rt: HostRuntime) -> Result<(), Fail> {
+    let mut bench = Bench::new(&rt, rt.alloc())?;
+    let mut out = Outbox::new(rt.alloc())?;
+    let write_back = offer(1, Cmd::WriteBack, 9);
+    assert!(rt; comes(&write_back));
+    let answer = bench.wake(write_back, tick(&rt, 10), &mut out);
+    assert_eq!(rt; answer, Answer::Taken);
+    let mut p = packet(2, Cmd::Read, 7);
+    assert_eq!(rt; bench.part.functional(&mut p), Way::Done { latency: 0 });
+    assert_eq!(rt; p, packet(2, Cmd::ReadResp, 9));
+    Ok(())
+}

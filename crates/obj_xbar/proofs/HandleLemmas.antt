@@ -1,5 +1,5 @@
 -- The handles of a crossbar's layers.
-use Rattle.std.proofs.Common.{◌≡◌, ℕ, suc, zero, ◌+◌, ◌-◌, ◌≤◌, ◌<◌, ◌==◌, ◌&&◌, refl, sym, ◌∙◌, ap, arith, subst, Bool, true, false, IsTrue, if◌then◌else◌, List, [], ◌∷◌, ◌++◌, length, replicate, get_or, nat_lt}
+use Rattle.std.proofs.Common.{◌≡◌, ℕ, suc, zero, ◌+◌, ◌-◌, ◌≤◌, ◌<◌, ◌&&◌, refl, ◌∙◌, ap, arith, Bool, true, false, IsTrue, List, [], ◌∷◌, ◌++◌, length, replicate, get_or}
 use Rattle.std.proofs.lemmas.Bool.{lt-ltb, le-ltb}
 use Rattle.ev_queue.specs.Handle.{Handle}
 use Rattle.ev_queue.specs.SlotTable.{gave}
@@ -8,9 +8,10 @@ use Rattle.gm_words.specs.PortUses.{fore, behind, sides, xbar_classes, slot_of_p
 use Rattle.gm_words.specs.Slots.{gave_from}
 use Rattle.gm_words.specs.declared.port_use.PortUse.{PortUse}
 use Rattle.obj_core.specs.Handles.{handles_from}
+use Rattle.obj_core.proofs.StepLemmas.{put_flow, put_changes}
 
 -- so many handles, of slots one after another
-abbrev run : ℕ → ℕ → ℕ → List Handle
+abbrev pub run : ℕ → ℕ → ℕ → List Handle
 run o s zero = []
 run o s (suc n) = record { owner = o; slot = s } ∷ run o (s + 1) n
 
@@ -24,11 +25,11 @@ run_at o s (suc n) zero d l = ap (λ k. record { owner = o; slot = k }) (omega a
 run_at o s (suc n) (suc i) d l = run_at o (s + 1) n i d (omega (arith, l)) ∙ ap (λ k. record { owner = o; slot = k }) (omega arith)
 
 -- the layers for responses stand behind the others
-only_responses : (o s b : ℕ) → handles_from o 0 s (replicate b 0) ≡ run o s b
+pub only_responses : (o s b : ℕ) → handles_from o 0 s (replicate b 0) ≡ run o s b
 only_responses o s zero = refl
 only_responses o s (suc b) = ap (λ l. record { owner = o; slot = s } ∷ l) (only_responses o (s + 1) b)
 
-behind_requests : (o s a b : ℕ) → handles_from o 0 s (replicate a 10 ++ replicate b 0) ≡ run o (s + a) b
+pub behind_requests : (o s a b : ℕ) → handles_from o 0 s (replicate a 10 ++ replicate b 0) ≡ run o (s + a) b
 behind_requests o s zero b = only_responses o s b ∙ ap (λ k. run o k b) (omega arith)
 behind_requests o s (suc a) b = behind_requests o (s + 1) a b ∙ ap (λ k. run o k b) (omega arith)
 
@@ -37,7 +38,7 @@ no_requests : (o s b : ℕ) → handles_from o 10 s (replicate b 0) ≡ []
 no_requests o s zero = refl
 no_requests o s (suc b) = no_requests o (s + 1) b
 
-before_responses : (o s a b : ℕ) → handles_from o 10 s (replicate a 10 ++ replicate b 0) ≡ run o s a
+pub before_responses : (o s a b : ℕ) → handles_from o 10 s (replicate a 10 ++ replicate b 0) ≡ run o s a
 before_responses o s zero b = no_requests o s b
 before_responses o s (suc a) b = ap (λ l. record { owner = o; slot = s } ∷ l) (before_responses o (s + 1) a b)
 
@@ -111,9 +112,11 @@ class_before us p l = rw (lt-ltb p (fore us) l) refl
 pub class_after : (us : List PortUse) (p : ℕ) → fore us ≤ p → class_of_port us p ≡ 10
 class_after us p l = rw (le-ltb p (fore us) l) refl
 
-pub layer_given : (t : List Slot) (o : ℕ) (us : List PortUse) (p : ℕ) → IsTrue (gave_from t o 0 (xbar_classes us)) → p < fore us → IsTrue (gave t o (slot_of_port us p) 0)
-layer_given t o us p g l = rw (slot_before us p l) (response_given t o us p g l)
-
 -- where some address has no port, the layer of no port has a slot
 pub side_there : (us : List PortUse) → is_total us ≡ false → behind us < behind us + sides us
 side_there us h = rw h (omega arith)
+
+-- what a packet that comes into a layer rests on: which handle is used there, and that it was given
+pub ruleset into_layer = (slot_before, slot_after, class_before, class_after, response_given, request_given, put_flow, put_changes)
+
+pub ruleset into_side = (side_there, request_given, put_flow, put_changes)

@@ -1,7 +1,6 @@
 -- Which layers packets go to.
-use Rattle.std.proofs.Common.{◌≡◌, ℕ, suc, zero, ◌+◌, ◌-◌, ◌≤◌, ◌<◌, ◌==◌, ◌&&◌, ◌||◌, refl, sym, ◌∙◌, ap, arith, subst, eqb-true, ◌⊎◌, inl, inr, Bool, true, false, IsFalse, if◌then◌else◌, List, [], ◌∷◌, length, get_or, nat_lt, nat_le, Option, Some, None, IfSome}
-use Rattle.std.proofs.lemmas.Bool.{lt-ltb, cases_lt}
-use Rattle.gm_words.specs.Flow.{Queued, OutState, Lane}
+use Rattle.std.proofs.Common.{◌≡◌, ℕ, suc, zero, ◌+◌, ◌≤◌, ◌<◌, ◌==◌, ◌&&◌, ◌||◌, refl, sym, ◌∙◌, arith, eqb-true, Bool, true, false, if◌then◌else◌, List, [], ◌∷◌, length, nat_le, Option, Some, None, IfSome}
+use Rattle.std.proofs.lemmas.Bool.{lt-ltb, le-leb}
 use Rattle.gm_words.specs.PortUses.{is_source, takes, takes_all, use_at, is_total, port_from, source_from, or_first, source_port, last_address}
 use Rattle.pkt_pool.specs.declared.packet.Packet.{Packet}
 use Rattle.gm_words.specs.declared.port_use.PortUse.{PortUse}
@@ -24,7 +23,8 @@ first_there k (u ∷ us) = by (is_source u) (first_there (suc k) us) where
   more None h = tt
   more (Some q) h = omega (arith, h)
 
-  by : (b : Bool) → IfSome (source_from (suc k) us) (λ q. q < suc k + length us) → IfSome (if b then Some k else source_from (suc k) us) (λ q. q < k + suc (length us))
+  by : (b : Bool) → IfSome (source_from (suc k) us) (λ q. q < suc k + length us)
+      → IfSome (if b then Some k else source_from (suc k) us) (λ q. q < k + suc (length us))
   by true h = omega arith
   by false h = more (source_from (suc k) us) h
 
@@ -55,7 +55,7 @@ all_taken (uses.Destination first last) a h = by (cases first last h) where
   ends false = refl
 
   by : (first ≡ 0) × (last ≡ last_address) → (nat_le first a && (nat_le a last || (last == last_address))) ≡ true
-  by e = rw e.0 rw e.1 (ends (nat_le a last_address))
+  by e = rw e.0 (rw e.1 (rw (le-leb 0 a (omega arith)) (ends (nat_le a last_address))))
 all_taken uses.Unused a h = absurd (cc)
 
 -- where no address is left without a port, each goes to one
@@ -80,7 +80,8 @@ port_there k (u ∷ us) a = by (takes u a) (port_there (suc k) us a) where
   more None h = tt
   more (Some q) h = omega (arith, h)
 
-  by : (b : Bool) → IfSome (port_from (suc k) us a) (λ q. q < suc k + length us) → IfSome (if b then Some k else port_from (suc k) us a) (λ q. q < k + suc (length us))
+  by : (b : Bool) → IfSome (port_from (suc k) us a) (λ q. q < suc k + length us)
+      → IfSome (if b then Some k else port_from (suc k) us a) (λ q. q < k + suc (length us))
   by true h = omega arith
   by false h = more (port_from (suc k) us a) h
 

@@ -1,5 +1,5 @@
--- No wake changes whose crossbar it is, nor its ports.
-use Rattle.std.proofs.Common.{◌≡◌, ℕ, ◌==◌, Bool, true, false, if◌then◌else◌, List, [], ◌∷◌, length}
+-- Nothing that comes to a crossbar changes whose it is, nor its ports.
+use Rattle.std.proofs.Common.{◌≡◌, ℕ, ◌==◌, sym, subst, Bool, true, false, if◌then◌else◌, List, [], ◌∷◌, length}
 use Rattle.gm_words.specs.Flow.{Queued, OutState, Quiet, Due, Asked, Waits}
 use Rattle.pkt_pool.specs.Packet.{top_port, is_write_back, fault_response}
 use Rattle.gm_words.specs.PortUses.{source_port, port_of_slot, is_side_slot}
@@ -8,8 +8,9 @@ use Rattle.gm_words.specs.declared.port_use.PortUse.{PortUse}
 use Rattle.gm_words.specs.declared.wake.Wake.{Wake}
 use Rattle.gm_words.specs.declared.wake.Wake.TheVariants as wakes
 use Rattle.gm_model.specs.Flows.{has_room}
-use Rattle.gm_model.specs.ObjState.{Xbar, XbarState}
-use Rattle.gm_model.specs.Xbar.{lane_at, layer_of, is_next, xbar_offer, side_event, side_event_at, side_event_by, side_enters, xbar_taken, xbar_event, xbar_step}
+use Rattle.gm_model.specs.ObjState.{ObjState, Blank, AtomicCpu, TimingCpu, Xbar, Server, XbarState}
+use Rattle.gm_model.specs.ObjectStep.{object_step, atomic_step}
+use Rattle.gm_model.specs.Xbar.{lane_at, layer_for, layer_of, is_next, xbar_atomic_at, xbar_offer, side_event, side_event_at, side_event_by, side_enters, xbar_taken, xbar_event, xbar_step}
 use Rattle.obj_xbar.specs.Stays.{IsXbar}
 
 module _ (object : ℕ) (ports : List PortUse) (s : XbarState) (h : IsXbar object ports (Xbar s)) (next now : ℕ) where
@@ -33,7 +34,8 @@ module _ (object : ℕ) (ports : List PortUse) (s : XbarState) (h : IsXbar objec
   beside (x ∷ xs) Waits = h
 
   fired : (slot : ℕ) (b : Bool)
-      → IsXbar object ports (if b then side_event s next now s.side.lane.flow.items s.side.lane.flow.out else xbar_event s next (port_of_slot s.ports slot)).state
+      → IsXbar object ports
+      (if b then side_event s next now s.side.lane.flow.items s.side.lane.flow.out else xbar_event s next (port_of_slot s.ports slot)).state
   fired slot true = beside s.side.lane.flow.items s.side.lane.flow.out
   fired slot false = h
 
@@ -53,3 +55,34 @@ module _ (object : ℕ) (ports : List PortUse) (s : XbarState) (h : IsXbar objec
   stays_xbar (wakes.Retry port) = h
   stays_xbar (wakes.Line bit level) = h
   stays_xbar (wakes.AtomicDone x latency) = h
+
+woken : (object : ℕ) (ports : List PortUse) (o : ObjState) (next : ℕ) (w : Wake) (now : ℕ) → IsXbar object ports o
+    → IsXbar object ports (object_step o next w now).state
+unfolding object_step
+woken object ports (Blank k) next w now h = absurd (cc)
+woken object ports (AtomicCpu s) next w now h = absurd (cc)
+woken object ports (TimingCpu s) next w now h = absurd (cc)
+woken object ports (Xbar s) next w now h = stays_xbar object ports s h next now w
+woken object ports (Server s) next w now h = absurd (cc)
+
+passed_by : (object : ℕ) (ports : List PortUse) (s : XbarState) (p : Packet) (n : ℕ) (b : Bool) → IsXbar object ports (Xbar s)
+    → IsXbar object ports (xbar_atomic_at s p n b).state
+passed_by object ports s p n true h = h
+passed_by object ports s p n false h = h
+
+passed : (object : ℕ) (ports : List PortUse) (o : ObjState) (p : Packet) (now : ℕ) → IsXbar object ports o → IsXbar object ports (atomic_step o p now).state
+unfolding atomic_step
+passed object ports (Blank k) p now h = absurd (cc)
+passed object ports (AtomicCpu s) p now h = absurd (cc)
+passed object ports (TimingCpu s) p now h = absurd (cc)
+passed object ports (Xbar s) p now h = passed_by object ports s p (layer_for s.ports p false) (layer_for s.ports p false == length s.ports) h
+passed object ports (Server s) p now h = absurd (cc)
+
+-- what a call leaves is that crossbar too
+pub still_xbar : (object : ℕ) (ports : List PortUse) (o o' : ObjState) (next : ℕ) (w : Wake) (now : ℕ) → IsXbar object ports o
+    → o' ≡ (object_step o next w now).state → IsXbar object ports o'
+still_xbar object ports o o' next w now h e = subst (λ x. IsXbar object ports x) (sym e) (woken object ports o next w now h)
+
+pub still_passing : (object : ℕ) (ports : List PortUse) (o o' : ObjState) (p : Packet) (now : ℕ) → IsXbar object ports o
+    → o' ≡ (atomic_step o p now).state → IsXbar object ports o'
+still_passing object ports o o' p now h e = subst (λ x. IsXbar object ports x) (sym e) (passed object ports o p now h)

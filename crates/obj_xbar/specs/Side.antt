@@ -1,6 +1,6 @@
 -- The layer of no port: for which layer it waits, and how its packet goes on. This project's own rules.
 use Rattle.std.specs.Prelude.{ℕ, ◌+◌, ◌==◌, Bool, false, List, [], ◌∷◌, slice_set}
-use Rattle.gm_words.specs.Flow.{Queued, OutState, Quiet, Due, Asked, Waits, Lane}
+use Rattle.gm_words.specs.Flow.{Queued, OutState, Quiet, Due, Asked, Waits, Lane, quiet_flow}
 use Rattle.pkt_pool.specs.Packet.{popped, top_port}
 use Rattle.gm_words.specs.PortUses.{source_port}
 use Rattle.gm_model.specs.Flows.{Moved, LaneMoved, put_in}
@@ -28,3 +28,7 @@ gone_beside s next p x now =
       lanes = slice_set s.lanes p (record { flow = m.flow; waiting = l.waiting });
       side = record s.side { lane = o.lane };
     })) next) { changes = m.changes; acts = o.acts }
+
+-- the packet in the layer p is gone
+abbrev pub cleared_at : XbarState → ℕ → XbarState
+cleared_at s p = record s { lanes = slice_set s.lanes p (record { flow = quiet_flow; waiting = (lane_at s.lanes p).waiting }) }

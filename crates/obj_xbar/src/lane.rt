@@ -81,6 +81,7 @@ impl Lane {
     pub(crate) fn first(&self) -> Option<&Packet>
         ensures packet { option_copied result ≡ head_of self.now.flow.items }
         ensures size { IfSome result (λ p. MayPass p.now) }
+        ensures there { IfSome result (λ p. 0 < length self.now.flow.items) }
     {
         self.flow.first()
     }

@@ -11,7 +11,7 @@ ghost use Rattle.gm_words.specs.declared.answer.Answer.TheVariants.{Refused};
 ghost use Rattle.gm_model.specs.Flows.{refusal_of};
 ghost use Rattle.gm_model.specs.ObjState.{Xbar};
 ghost use Rattle.gm_model.specs.Ports.{ComesWithin};
-ghost use Rattle.gm_model.specs.Xbar.{xbar_start, xbar_step, xbar_offer, xbar_atomic, xbar_functional, is_xbar_drained, are_idle};
+ghost use Rattle.gm_model.specs.Xbar.{xbar_start, xbar_step, xbar_offer, xbar_atomic, xbar_functional, is_xbar_drained, are_idle, held_bytes, read_of};
 ghost use Rattle.obj_core.specs.Handles.{handles_from};
 ghost use Rattle.obj_core.specs.Out.{HasRoom, extended};
 ghost use Rattle.obj_core.specs.Step.{Takes, Answers};
@@ -198,7 +198,8 @@ impl Layers {
     {
         let at = self.offered_at(now);
         if self.side.has_room() {
-            self.ports.put_beside(&mut self.side, &turned(p, port), at, q);
+            self.ports
+                .put_beside(&mut self.side, &turned(p, port), at, q);
             return Answer::Taken;
         }
         self.side.join(port);
@@ -237,7 +238,7 @@ impl Layers {
     }
 
     /// The offer at a port was taken: the first that waits for its layer is called, or it is the layer of no port.
-    #[tactic(auto, using(crate::proofs::StepLemmas::next_is, crate::proofs::StepLemmas::less_ahead, crate::proofs::StepLemmas::same_ahead, crate::proofs::StepLemmas::opened_one))]
+    #[tactic(auto, using(crate::proofs::StepLemmas::once_gone))]
     fn taken(&mut self, port: PortNo, now: Tick, q: &mut EventQueue, out: &mut Outbox)
         requires port { port.0 < length self.old.ports.uses }
         requires tick { now ≤ TOP }
@@ -284,16 +285,13 @@ impl Layers {
         if self.side.read(p) {
             return;
         }
-        for lane in &self.lanes {
-            if lane.read(p) {
-                return;
-            }
-        }
+        read_first(&self.lanes, p);
     }
 
     // Drain.
 
     /// Whether nothing is in its layers, and nobody waits.
+    #[tactic(auto, unfolding(gm_model::specs::Xbar::are_idle))]
     pub(crate) fn is_drained(&self) -> bool
         ensures { result ≡ is_xbar_drained (xbar_state self.now) }
     {
@@ -306,10 +304,22 @@ fn empty_lanes(alloc: Global, count: usize) -> Result<Vec<Lane>, NoMemory>
     ensures { IfOk result (λ ls. ls.items ≡ replicate count empty_lane) }
 {
     let mut lanes = Vec::with_capacity(alloc, count)?;
-    while lanes.len() < count {
+    for _ in 0..count {
         lanes.push(Lane::new(alloc)?)?;
     }
     Ok(lanes)
+}
+
+/// Answers a read without time by the first of the layers that holds a write-back which covers its address.
+fn read_first(lanes: &[Lane], p: &mut Packet)
+    requires { MayPass p.old }
+    ensures { p.new ≡ read_of p.old (held_bytes lanes.now p.old.addr p.old.size) }
+{
+    for lane in lanes {
+        if lane.read(p) {
+            return;
+        }
+    }
 }
 
 /// Whether nothing is in any of the layers, and nobody waits.

@@ -12,8 +12,8 @@ ghost use Rattle.obj_core.specs.Handles.{handles_from};
 use crate::lane::Lane;
 use ev_queue::{EventHandle, EventQueue};
 use gc_base::{NoMemory, ObjId, SlotNo, Tick};
-use gm_words::port_use;
 use gm_model::{Packet, PortUse};
+use gm_words::port_use;
 use std::alloc::Global;
 use std::marker::Model;
 
@@ -90,7 +90,8 @@ impl Ports {
     /// The layer of a request, by its address.
     #[tactic(auto, unfolding(gm_model::specs::Xbar::layer_for))]
     pub(crate) fn way_of(&self, p: &Packet) -> usize
-        ensures { result ≡ layer_for self.now.uses p.now false }
+        ensures value { result ≡ layer_for self.now.uses p.now false }
+        ensures most { result ≤ length self.now.uses }
     {
         match port_use::port_for(&self.uses, p.addr) {
             Some(port) if port < self.uses.len() => port,
@@ -99,8 +100,10 @@ impl Ports {
     }
 
     /// The port at which a response goes out.
+    #[tactic(auto, using(crate::proofs::LayerLemmas::source_below))]
     pub(crate) fn source_of(&self, p: &Packet) -> usize
-        ensures { result ≡ source_port self.now.uses (top_port p.now) }
+        ensures value { result ≡ source_port self.now.uses (top_port p.now) }
+        ensures there { 0 < length self.now.uses → result < length self.now.uses }
     {
         port_use::source_port(&self.uses, p.top_port().0 as usize)
     }
@@ -122,7 +125,7 @@ impl Ports {
     // Packets in.
 
     /// Takes a packet into the free place of a port's layer, which is offered at a tick.
-    #[tactic(auto, using(crate::proofs::HandleLemmas::slot_before, crate::proofs::HandleLemmas::slot_after, crate::proofs::HandleLemmas::class_before, crate::proofs::HandleLemmas::class_after, crate::proofs::HandleLemmas::response_given, crate::proofs::HandleLemmas::request_given, obj_core::proofs::StepLemmas::put_flow, obj_core::proofs::StepLemmas::put_changes))]
+    #[tactic(auto, using(crate::proofs::HandleLemmas::into_layer))]
     pub(crate) fn put(&self, port: usize, lane: &mut Lane, p: &Packet, at: Tick, q: &mut EventQueue)
         requires port { port < length self.now.uses }
         requires room { IsTrue (has_room 1 lane.old) }
@@ -147,7 +150,7 @@ impl Ports {
     }
 
     /// Takes a packet into the free place of the layer of no port.
-    #[tactic(auto, using(crate::proofs::HandleLemmas::side_there, crate::proofs::HandleLemmas::request_given, obj_core::proofs::StepLemmas::put_flow, obj_core::proofs::StepLemmas::put_changes))]
+    #[tactic(auto, using(crate::proofs::HandleLemmas::into_side))]
     pub(crate) fn put_beside(&self, side: &mut Lane, p: &Packet, at: Tick, q: &mut EventQueue)
         requires sided { IsFalse (is_total self.now.uses) }
         requires room { IsTrue (has_room 1 side.old) }

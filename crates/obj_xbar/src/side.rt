@@ -9,7 +9,7 @@ ghost use Rattle.gm_model.specs.Xbar.{lane_at, side_event, side_enters};
 ghost use Rattle.obj_core.specs.Out.{HasRoom};
 ghost use Rattle.obj_core.specs.Step.{Takes};
 ghost use Rattle.obj_xbar.specs.Shown.{xbar_state};
-ghost use Rattle.obj_xbar.specs.Side.{is_behind, gone_beside};
+ghost use Rattle.obj_xbar.specs.Side.{is_behind, gone_beside, cleared_at};
 
 use crate::layers::Layers;
 use ev_queue::EventQueue;
@@ -34,19 +34,35 @@ impl Layers {
         let Some(first) = self.side.first() else {
             return;
         };
-        let mut p = *first;
-        if p.is_write_back() {
+        if first.is_write_back() {
             self.side.open(out);
             return;
         }
+        let mut p = *first;
         let port = self.ports.source_of(&p);
         p.refuse();
-        if self.lanes[port].has_room() {
+        if self.has_room_at(port) {
             self.side_goes(port, p, now, q, out);
         } else {
             self.side.wait_as(&p);
-            self.ahead = self.lanes[port].waiting();
+            self.ahead = self.waiting_at(port);
         }
+    }
+
+    /// Whether the place of a port's layer is free.
+    fn has_room_at(&self, port: usize) -> bool
+        requires { port < length self.now.ports.uses }
+        ensures { result ≡ has_room 1 (lane_at self.now.lanes.items port) }
+    {
+        self.lanes[port].has_room()
+    }
+
+    /// How many ports wait for a port's layer.
+    fn waiting_at(&self, port: usize) -> usize
+        requires { port < length self.now.ports.uses }
+        ensures { result ≡ length (lane_at self.now.lanes.items port).waiting }
+    {
+        self.lanes[port].waiting()
     }
 
     /// Its packet, a response now, goes to the layer of a port, whose place is free.
@@ -104,7 +120,15 @@ impl Layers {
             return;
         };
         let p = *first;
-        self.lanes[port.0 as usize].clear();
+        self.clear_at(port.0 as usize);
         self.side_goes(port.0 as usize, p, now, q, out);
+    }
+
+    /// The packet of a port's layer is gone.
+    fn clear_at(&mut self, port: usize)
+        requires { port < length self.old.ports.uses }
+        ensures { xbar_state self.new ≡ cleared_at (xbar_state self.old) port }
+    {
+        self.lanes[port].clear();
     }
 }

@@ -1,0 +1,3 @@
+pub mod RegistersLemmas
+pub mod KeptLemmas
+pub mod CallLemmas
