@@ -1,0 +1,9 @@
+pub mod Orders
+pub mod Counts
+pub mod SoundLemmas
+pub mod UsedLemmas
+pub mod StoredLemmas
+pub mod PowerLemmas
+pub mod StoreLemmas
+pub mod PlainLemmas
+pub mod PlaceLemmas

@@ -1,0 +1,6 @@
+use Rattle.std.proofs.Common.{◌≡◌, length, refl}
+use Rattle.std.proofs.lemmas.List.{drop-replicate}
+use Rattle.cache_tags.proofs.stored.pad.Goals as goal
+
+pub returns : goal.returns
+returns c = rw (c.copy_from_slice.ensures.after) (rw drop-replicate refl)
