@@ -142,6 +142,17 @@ fn tick(rt: &impl Abort, n: u64) -> Tick
     Tick::new(n).expect(rt, "a tick")
 }
 
+/// Who makes the request with a number: the hart's data access, its fetch, a DMA engine, or a cache.
+fn source(id: u64) -> u8 {
+    match id {
+        2 => 0,
+        3 => 2,
+        4 => 5,
+        6 => 4,
+        _ => 1,
+    }
+}
+
 /// A packet for the second word of RAM, with a number in front.
 fn packet(id: u64, cmd: Cmd, number: u32) -> Packet
     ensures { result.size ≡ 4 }
@@ -150,7 +161,7 @@ fn packet(id: u64, cmd: Cmd, number: u32) -> Packet
     bytes[..4].copy_from_slice(&number.to_le_bytes());
     Packet {
         id: PktId(id),
-        src: 1,
+        src: source(id),
         cmd,
         addr: 0x8000_0004,
         size: 4,
@@ -177,12 +188,16 @@ fn offers(id: u64, cmd: Cmd, number: u32) -> Option<Act> {
     })
 }
 
-/// What is noted of a request that RAM served.
+/// What is noted of a request that RAM served: nothing of a cache's.
 fn noted(id: u64, write: bool, number: u32) -> Option<Entry> {
+    let src = source(id);
+    if src > 2 {
+        return None;
+    }
     let mut bytes = [0; 8];
     bytes[..4].copy_from_slice(&number.to_le_bytes());
     Some(Entry::Served {
-        src: 1,
+        src,
         id: PktId(id),
         write,
         addr: 0x8000_0004,

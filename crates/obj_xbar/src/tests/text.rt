@@ -34,7 +34,19 @@ fn cmd(rt: &impl Abort, row: &mut SplitWhitespace<'_>) -> Cmd {
     }
 }
 
-/// The packet of a row, of eight bytes.
+/// Who makes the request with a number: a fetch, a data access, a DMA engine, or one of three caches.
+fn source(id: u64) -> u8 {
+    match id % 6 {
+        0 => 0,
+        1 => 1,
+        2 => 2,
+        3 => 4,
+        4 => 5,
+        _ => 6,
+    }
+}
+
+/// The packet of a row, of eight bytes, by the source of its number.
 pub(super) fn packet(rt: &impl Abort, row: &mut SplitWhitespace<'_>) -> Packet
     ensures { MayPass result }
 {
@@ -47,7 +59,7 @@ pub(super) fn packet(rt: &impl Abort, row: &mut SplitWhitespace<'_>) -> Packet
     }
     let mut packet = Packet {
         id: PktId(id as u64),
-        src: 1,
+        src: source(id as u64),
         cmd,
         addr,
         size: 8,
@@ -96,6 +108,9 @@ pub(super) fn put_packet(text: &mut String, p: &Packet) -> Result<(), AllocError
     )?;
     if p.fault {
         text.push_str(" fault")?;
+    }
+    if p.src != source(p.id.0) {
+        text.push_str(" of another source")?;
     }
     write!(text, " {} {}", p.bytes[0], p.bytes[7])
 }
