@@ -1,7 +1,6 @@
 -- Counting in lists.
-use Rattle.std.proofs.Common.{◌≡◌, ℕ, suc, ◌+◌, ◌<◌, ◌≤◌, Bool, true, false, cond, List, [], ◌∷◌, ◌++◌, length, get_or, take, drop, map, refl, sym, ◌∙◌, ap, subst, arith, Option, Some, None}
+use Rattle.std.proofs.Common.{◌≡◌, ℕ, ◌+◌, ◌≤◌, Bool, true, false, cond, List, [], ◌∷◌, get_or, take, map, refl, ◌∙◌, ap, subst, arith, Some, None}
 use Rattle.std.specs.Prelude.{find, count_by, All, slice_get}
-use Rattle.std.specs.List.{sum_by}
 use Rattle.std.proofs.lemmas.List.Sums.{sum_by-cons, sum_by-take-drop, sum_by-drop_more}
 use Rattle.std.proofs.lemmas.List.Elements.{All-head, All-tail}
 use Rattle.std.proofs.lemmas.Option.{slice_get_within, get_or_from_slice_get}
@@ -38,7 +37,8 @@ count_by-not_found {X = X} p (x ∷ xs) h = by (count_by-not_found p xs) (p x) r
       omega (arith, z, sum_by-cons f x xs, more k)
 
 -- one that passes, behind others
-pub count_by-before : {X : Type 0} (p : X → Bool) (xs : List X) (i : ℕ) (x : X) → slice_get xs i ≡ Some x → p x ≡ true → count_by p (take i xs) + 1 ≤ count_by p xs
+pub count_by-before : {X : Type 0} (p : X → Bool) (xs : List X) (i : ℕ) (x : X) → slice_get xs i ≡ Some x → p x ≡ true
+    → count_by p (take i xs) + 1 ≤ count_by p xs
 count_by-before {X = X} p xs i x e t =
     let f : X → ℕ = λ x. cond (p x) 1 0 in
     let at : get_or xs i x ≡ x = get_or_from_slice_get xs i x x e in

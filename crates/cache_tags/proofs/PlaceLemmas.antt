@@ -1,7 +1,7 @@
 -- What the calls do to the lines of a cache, and to what stands at its places.
-use Rattle.std.proofs.Common.{◌≡◌, ◌≢◌, ℕ, suc, zero, ◌+◌, ◌-◌, ◌%◌, ◌<◌, ◌≤◌, ◌==◌, Bool, true, false, List, [], ◌∷◌, ◌++◌, length, get_or, set, take, drop, map, refl, sym, ◌∙◌, ap, subst, arith, Option, Some, None, ◌⊎◌, inl, inr}
+use Rattle.std.proofs.Common.{◌≡◌, ℕ, suc, ◌-◌, ◌%◌, ◌<◌, ◌≤◌, ◌==◌, Bool, true, List, ◌∷◌, ◌++◌, length, take, drop, refl, sym, ◌∙◌, ap, arith, Option, Some, None, ◌⊎◌, inl, inr}
 use Rattle.std.specs.Prelude.{find, count_by, is_some, IfSome, slice_get}
-use Rattle.std.specs.Option.{option_map, option_or}
+use Rattle.std.specs.Option.{option_map}
 use Rattle.std.proofs.lemmas.Bool.{cases_eq, eq-eqb, ne_eqb}
 use Rattle.std.proofs.lemmas.List.{map-set, take-map}
 use Rattle.std.proofs.lemmas.List.Folds.{find-append}
@@ -9,14 +9,15 @@ use Rattle.std.proofs.lemmas.Option.{slice_get-map}
 use Rattle.cache_tags.specs.declared.place.Place.{Place}
 use Rattle.cache_tags.specs.declared.place.LineAt.{LineAt}
 use Rattle.cache_tags.specs.Line.{Line, rewritten, in_front, in_place, come_in}
-use Rattle.cache_tags.specs.Held.{Held, CacheSet, of_address, in_way, used, write_in, written_in, with_line, line_info, IsSoundSet}
+use Rattle.cache_tags.specs.Held.{Held, CacheSet, of_address, in_way, used, write_in, written_in, with_line, line_info}
 use Rattle.cache_tags.specs.Kept.{Kept, base_of, set_of, set_at, with_set, lines_at, lines_of, with_lines, line_of, line_at, found, touched, written, installed, nth_line, KeepsPlaces, KeepsOtherPlaces, IsSoundCache}
 use Rattle.cache_tags.proofs.UsedLemmas.{others_fail, split_at}
 use Rattle.cache_tags.proofs.PlainLemmas.{find-map, not_found-none, found-between, plain, way_is, used_lines, used_ways, written_lines, written_ways}
 use Rattle.cache_tags.proofs.StoreLemmas.{set-same, set-other, place_within}
 
 -- the one that passes is found
-found_between : {X : Type 0} (p : X → Bool) (front back : List X) (x : X) → p x ≡ true → count_by p (front ++ x ∷ back) ≤ 1 → find p (front ++ x ∷ back) ≡ Some x
+found_between : {X : Type 0} (p : X → Bool) (front back : List X) (x : X) → p x ≡ true → count_by p (front ++ x ∷ back) ≤ 1
+    → find p (front ++ x ∷ back) ≡ Some x
 found_between p front back x passes one =
     let none : find p front ≡ None = not_found-none p front (others_fail p front back x passes one).0 in
     find-append p front (x ∷ back) ∙ rw (none, passes) refl
@@ -37,9 +38,11 @@ module _ (t : Kept) (ok : IsSoundCache t) where
       ap (in_way h.way) split
       ∙ found_between (λ k. k.way == h.way) (take n (set_at t s)) (drop (suc n) (set_at t s)) h (eq-eqb h.way h.way refl) (rw split at ((ok.sound s).one_way h.way))
 
-  pub nth_there : (s n : ℕ) (r : Option LineAt) → r ≡ nth_line t s n → IfSome r (λ l. (is_some (line_at t l.at) ≡ true) × (line_at t l.at ≡ slice_get (lines_at t s) n))
+  pub nth_there : (s n : ℕ) (r : Option LineAt) → r ≡ nth_line t s n
+      → IfSome r (λ l. (is_some (line_at t l.at) ≡ true) × (line_at t l.at ≡ slice_get (lines_at t s) n))
   nth_there s n r e = rw e (by (slice_get (set_at t s) n) refl) where
-    by : (o : Option Held) → slice_get (set_at t s) n ≡ o → IfSome (option_map (line_info s) o) (λ l. (is_some (line_at t l.at) ≡ true) × (line_at t l.at ≡ slice_get (lines_at t s) n))
+    by : (o : Option Held) → slice_get (set_at t s) n ≡ o
+        → IfSome (option_map (line_info s) o) (λ l. (is_some (line_at t l.at) ≡ true) × (line_at t l.at ≡ slice_get (lines_at t s) n))
     by None q = tt
     by (Some h) q =
         let here : line_at t (record { set = s; way = h.way }) ≡ Some h.line = ap (option_map (λ (h : Held). h.line)) (line_there s n h q) in
@@ -51,13 +54,15 @@ module _ (t : Kept) (ok : IsSoundCache t) where
 
   pub found_there : (a : ℕ) (r : Option Place) → r ≡ found t a → is_some r ≡ is_some (line_of t a)
   found_there a r e = ap is_some e ∙ (by (of_address (base_of t a) (set_at t (set_of t a))) ∙ ap is_some (sym (held_of a))) where
-    by : (o : Option Held) → is_some (option_map (λ h. let p : Place = record { set = set_of t a; way = h.way } in p) o) ≡ is_some (option_map (λ (h : Held). h.line) o)
+    by : (o : Option Held)
+        → is_some (option_map (λ h. let p : Place = record { set = set_of t a; way = h.way } in p) o) ≡ is_some (option_map (λ (h : Held). h.line) o)
     by None = refl
     by (Some h) = refl
 
   pub found_none : (a : ℕ) (r : Option Place) → r ≡ found t a → r ≡ None → line_of t a ≡ None
   found_none a r e none = held_of a ∙ by (of_address (base_of t a) (set_at t (set_of t a))) (sym e ∙ none) where
-    by : (o : Option Held) → option_map (λ h. let p : Place = record { set = set_of t a; way = h.way } in p) o ≡ None → option_map (λ (h : Held). h.line) o ≡ None
+    by : (o : Option Held) → option_map (λ h. let p : Place = record { set = set_of t a; way = h.way } in p) o ≡ None
+        → option_map (λ (h : Held). h.line) o ≡ None
     by None k = refl
     by (Some h) k = absurd cc
 
@@ -79,7 +84,8 @@ module _ (t : Kept) (ok : IsSoundCache t) where
   -- a line is used
   touched_lines : (p : Place) → IfSome (line_at t p) (λ l. lines_of (touched t p) ≡ with_lines t p.set (in_front l (lines_at t p.set)))
   touched_lines p = by (in_way p.way (set_at t p.set)) refl where
-    by : (o : Option Held) → in_way p.way (set_at t p.set) ≡ o → IfSome (option_map (λ (h : Held). h.line) o) (λ l. lines_of (touched t p) ≡ with_lines t p.set (in_front l (lines_at t p.set)))
+    by : (o : Option Held) → in_way p.way (set_at t p.set) ≡ o
+        → IfSome (option_map (λ (h : Held). h.line) o) (λ l. lines_of (touched t p) ≡ with_lines t p.set (in_front l (lines_at t p.set)))
     by None q = tt
     by (Some h) q =
         changed_lines t p.set (used p.way (set_at t p.set)) ∙ ap (with_lines t p.set) (used_lines (the_set p.set) (ok.sound p.set) p.way h q)
@@ -89,7 +95,8 @@ module _ (t : Kept) (ok : IsSoundCache t) where
     within : p.set < length t.sets
     within = place_within t p e
 
-    here : (o : Option Held) → in_way p.way (set_at t p.set) ≡ o → is_some (option_map (λ (h : Held). h.line) o) ≡ true → in_way q.way (used p.way (set_at t p.set)) ≡ in_way q.way (set_at t p.set)
+    here : (o : Option Held) → in_way p.way (set_at t p.set) ≡ o → is_some (option_map (λ (h : Held). h.line) o) ≡ true
+        → in_way q.way (used p.way (set_at t p.set)) ≡ in_way q.way (set_at t p.set)
     here None k some = absurd cc
     here (Some h) k some = used_ways (the_set p.set) (ok.sound p.set) p.way h k q.way
 
@@ -129,7 +136,8 @@ module _ (t : Kept) (ok : IsSoundCache t) where
     same : q.set ≡ p.set → q.way ≡ p.way → q ≡ p
     same s w = ap (λ n. let r : Place = record { set = n; way = q.way } in r) s ∙ ap (λ n. let r : Place = record { set = p.set; way = n } in r) w
 
-    kept : q.set ≡ p.set → (o : Option Held) → in_way q.way (set_at t q.set) ≡ o → option_map (λ (h : Held). h.line) (option_map (write_in p.way offset bytes) o) ≡ option_map (λ (h : Held). h.line) o
+    kept : q.set ≡ p.set → (o : Option Held) → in_way q.way (set_at t q.set) ≡ o
+        → option_map (λ (h : Held). h.line) (option_map (write_in p.way offset bytes) o) ≡ option_map (λ (h : Held). h.line) o
     kept s None k = refl
     kept s (Some h) k = rw (ne_eqb h.way p.way (λ w. other (same s (sym (way_is (the_set q.set) (ok.sound q.set) q.way h k) ∙ w)))) refl
 
@@ -171,5 +179,6 @@ module _ (t t' : Kept) (ok : IsSoundCache t) where
     pub after_write_others : is_some (line_at t p) ≡ true → KeepsOtherPlaces t t' p
     after_write_others some = rw e (wrote_others t ok p offset bytes some)
 
-  pub after_install_lines : (l : Line) → t' ≡ installed t l → lines_of t' ≡ with_lines t (set_of t l.address) (come_in t.ways l (lines_at t (set_of t l.address)))
+  pub after_install_lines : (l : Line) → t' ≡ installed t l
+      → lines_of t' ≡ with_lines t (set_of t l.address) (come_in t.ways l (lines_at t (set_of t l.address)))
   after_install_lines l e = ap lines_of e ∙ installed_lines t ok l

@@ -1,15 +1,14 @@
 -- What the calls do to the lines, whatever their ways.
-use Rattle.std.proofs.Common.{◌≡◌, ◌≢◌, ℕ, suc, zero, ◌+◌, ◌-◌, ◌<◌, ◌≤◌, ◌==◌, Bool, true, false, cond, List, [], ◌∷◌, ◌++◌, length, get_or, take, drop, map, refl, sym, ◌∙◌, ap, subst, arith, if◌then◌else◌, Option, Some, None, ◌⊎◌, inl, inr}
-use Rattle.std.specs.Prelude.{find, count_by, is_some, IfSome, slice_get}
+use Rattle.std.proofs.Common.{◌≡◌, ℕ, ◌+◌, ◌==◌, Bool, true, false, cond, List, [], ◌∷◌, ◌++◌, map, refl, sym, ◌∙◌, ap, subst, arith, if◌then◌else◌, Some, None, ◌⊎◌, inl, inr}
+use Rattle.std.specs.Prelude.{find, count_by}
 use Rattle.std.specs.Option.{option_map, option_or}
-use Rattle.std.specs.List.{sum_by}
 use Rattle.std.proofs.lemmas.Bool.{cases_eq, eq-eqb, ne_eqb, eqb-true}
-use Rattle.std.proofs.lemmas.List.{map-append, take-map}
+use Rattle.std.proofs.lemmas.List.{map-append}
 use Rattle.std.proofs.lemmas.List.Sums.{sum_by-cons}
 use Rattle.std.proofs.lemmas.List.Folds.{find-append}
-use Rattle.cache_tags.specs.Line.{Line, rewritten, without_line, in_front, in_place, come_in}
-use Rattle.cache_tags.specs.Held.{Held, CacheSet, of_address, in_way, used, write_in, written_in, with_line, IsSoundSet}
-use Rattle.cache_tags.proofs.Counts.{bit, count_by-not_found}
+use Rattle.cache_tags.specs.Line.{Line, rewritten, without_line, in_front, in_place}
+use Rattle.cache_tags.specs.Held.{Held, CacheSet, in_way, used, write_in, written_in, IsSoundSet}
+use Rattle.cache_tags.proofs.Counts.{bit}
 use Rattle.cache_tags.proofs.SoundLemmas.{write_way}
 use Rattle.cache_tags.proofs.UsedLemmas.{others_fail, used-between}
 
@@ -17,7 +16,8 @@ use Rattle.cache_tags.proofs.UsedLemmas.{others_fail, used-between}
 pub find-map : {X Y : Type 0} (p : Y → Bool) (f : X → Y) (xs : List X) → find p (map f xs) ≡ option_map f (find (λ x. p (f x)) xs)
 find-map p f [] = refl
 find-map {X = X} {Y = Y} p f (x ∷ xs) = by (p (f x)) (find-map p f xs) where
-  by : (b : Bool) → find p (map f xs) ≡ option_map f (find (λ x. p (f x)) xs) → cond b (Some (f x)) (find p (map f xs)) ≡ option_map f (cond b (Some x) (find (λ x. p (f x)) xs))
+  by : (b : Bool) → find p (map f xs) ≡ option_map f (find (λ x. p (f x)) xs)
+      → cond b (Some (f x)) (find p (map f xs)) ≡ option_map f (cond b (Some x) (find (λ x. p (f x)) xs))
   by true more = refl
   by false more = more
 
@@ -56,13 +56,15 @@ abbrev pub plain : List Held → List Line
 plain hs = map (λ h. h.line) hs
 
 -- none has the address
-without-absent : (a : ℕ) (hs : List Held) (ls : List Line) → count_by (λ h. h.line.address == a) hs ≡ 0 → without_line a (plain hs ++ ls) ≡ plain hs ++ without_line a ls
+without-absent : (a : ℕ) (hs : List Held) (ls : List Line) → count_by (λ h. h.line.address == a) hs ≡ 0
+    → without_line a (plain hs ++ ls) ≡ plain hs ++ without_line a ls
 without-absent a [] ls none = refl
 without-absent a (h ∷ hs) ls none = by (without-absent a hs ls) (cases_eq h.line.address a) where
   all : count_by (λ h. h.line.address == a) (h ∷ hs) ≡ bit (h.line.address == a) + count_by (λ h. h.line.address == a) hs
   all = sum_by-cons (λ (h : Held). bit (h.line.address == a)) h hs
 
-  by : (count_by (λ h. h.line.address == a) hs ≡ 0 → without_line a (plain hs ++ ls) ≡ plain hs ++ without_line a ls) → (h.line.address ≡ a) ⊎ (h.line.address ≡ a → ⊥)
+  by : (count_by (λ h. h.line.address == a) hs ≡ 0 → without_line a (plain hs ++ ls) ≡ plain hs ++ without_line a ls)
+      → (h.line.address ≡ a) ⊎ (h.line.address ≡ a → ⊥)
       → without_line a (plain (h ∷ hs) ++ ls) ≡ plain (h ∷ hs) ++ without_line a ls
   by more (inl e) = let one : bit (h.line.address == a) ≡ 1 = rw (eq-eqb h.line.address a e) refl in absurd (omega (arith, one, all, none))
   by more (inr n) = rw (ne_eqb h.line.address a n) (ap (λ ks. h.line ∷ ks) (more (omega (arith, all, none))))
@@ -142,7 +144,8 @@ module _ (s : CacheSet) (ok : IsSoundSet s) (w : ℕ) (h : Held) (here : in_way 
       ap plain left ∙ (map-append (λ (h : Held). h.line) b.front (g h ∷ b.back) ∙ (ap (λ k. plain b.front ++ (k ∷ plain b.back)) new ∙ sym right))
 
 -- what stands in each way after bytes were written
-pub written_ways : (w offset v : ℕ) (bytes : List ℕ) (hs : List Held) → in_way v (written_in w offset bytes hs) ≡ option_map (write_in w offset bytes) (in_way v hs)
+pub written_ways : (w offset v : ℕ) (bytes : List ℕ) (hs : List Held)
+    → in_way v (written_in w offset bytes hs) ≡ option_map (write_in w offset bytes) (in_way v hs)
 written_ways w offset v bytes hs =
     let g : Held → Held = write_in w offset bytes in
     find-map (λ h. h.way == v) g hs ∙ ap (option_map g) (find-agree (λ h. (g h).way == v) (λ h. h.way == v) (λ h. ap (λ n. n == v) (write_way w offset bytes h)) hs)

@@ -1,16 +1,16 @@
 -- Each change leaves a set sound.
-use Rattle.std.proofs.Common.{◌≡◌, ℕ, suc, ◌+◌, ◌-◌, ◌<◌, ◌≤◌, ◌==◌, Bool, true, false, not, cond, List, [], ◌∷◌, ◌++◌, length, get_or, take, drop, map, refl, sym, ◌∙◌, ap, subst, arith, Option, Some, None, min, zero, ◌⊎◌, inl, inr}
-use Rattle.std.specs.Prelude.{find, count_by, All, slice_get}
+use Rattle.std.proofs.Common.{◌≡◌, ℕ, suc, ◌+◌, ◌-◌, ◌<◌, ◌≤◌, ◌==◌, Bool, true, false, not, cond, List, [], ◌∷◌, length, get_or, take, map, refl, ◌∙◌, ap, subst, arith, Option, Some, None, zero, ◌⊎◌, inl, inr}
+use Rattle.std.specs.Prelude.{count_by, slice_get}
 use Rattle.std.specs.Option.{option_map_or}
 use Rattle.std.specs.List.Sorted.{IsPermutation}
 use Rattle.std.proofs.lemmas.Bool.{cases_eq, eq-eqb, ne_eqb}
-use Rattle.std.proofs.lemmas.List.{length-map, length-take, take_all, length-append, length-drop}
+use Rattle.std.proofs.lemmas.List.{length-map, length-take, length-append, length-drop}
 use Rattle.std.proofs.lemmas.List.Sums.{sum_by-cons, sum_by-take-le}
-use Rattle.std.proofs.lemmas.List.Elements.{All-nil, All-cons, All-take, All-map, All-weaker, All-get_or}
+use Rattle.std.proofs.lemmas.List.Elements.{All-nil, All-cons, All-take, All-map, All-weaker}
 use Rattle.std.proofs.lemmas.List.Sorted.{IsPermutation-filter_both, All-permutation, length_permutation, sum_by-IsPermutation}
-use Rattle.std.proofs.lemmas.Option.{slice_get_within, slice_get_past, get_or_from_slice_get}
+use Rattle.std.proofs.lemmas.Option.{slice_get_within, get_or_from_slice_get}
 use Rattle.cache_tags.specs.Line.{Line, put_at, rewritten}
-use Rattle.cache_tags.specs.Held.{Held, CacheSet, of_address, in_way, used, write_in, written_in, leaving, next_way, with_line, IsSoundSet}
+use Rattle.cache_tags.specs.Held.{Held, CacheSet, of_address, used, write_in, written_in, with_line, IsSoundSet}
 use Rattle.cache_tags.proofs.Counts.{bit, count_by-map, count_by-none, count_by-not_found, count_by-before}
 
 -- nothing stands from a place on
@@ -93,7 +93,9 @@ written_sound s w offset bytes fits ok =
 
 -- a line comes
 module _ (s : CacheSet) (l : Line) (some : 0 < s.ways) (absent : of_address l.address s.held ≡ None) (whole : length l.bytes ≡ s.line) (ok : IsSoundSet s) where
-  count-coming : (p : Held → Bool) (w : ℕ) → count_by p (record { way = w; line = l } ∷ take (s.ways - 1) s.held) ≡ cond (p (record { way = w; line = l })) 1 0 + count_by p (take (s.ways - 1) s.held)
+  count-coming : (p : Held → Bool) (w : ℕ)
+      → count_by p (record { way = w; line = l } ∷ take (s.ways - 1) s.held)
+      ≡ cond (p (record { way = w; line = l })) 1 0 + count_by p (take (s.ways - 1) s.held)
   count-coming p w = sum_by-cons (λ (h : Held). cond (p h) 1 0) (record { way = w; line = l }) (take (s.ways - 1) s.held)
 
   one_line : (w a : ℕ) → count_by (λ h. h.line.address == a) (record { way = w; line = l } ∷ take (s.ways - 1) s.held) ≤ 1
@@ -127,7 +129,8 @@ module _ (s : CacheSet) (l : Line) (some : 0 < s.ways) (absent : of_address l.ad
         omega (arith, none, part, ok.one_way v, count-coming (λ h. h.way == v) (length s.held))
 
   -- where a line leaves
-  left_way : (v : ℕ) (h : Held) → slice_get s.held (s.ways - 1) ≡ Some h → count_by (λ h. h.way == v) (record { way = h.way; line = l } ∷ take (s.ways - 1) s.held) ≤ 1
+  left_way : (v : ℕ) (h : Held) → slice_get s.held (s.ways - 1) ≡ Some h
+      → count_by (λ h. h.way == v) (record { way = h.way; line = l } ∷ take (s.ways - 1) s.held) ≤ 1
   left_way v h e = by (cases_eq h.way v) where
     part : count_by (λ h. h.way == v) (take (s.ways - 1) s.held) ≤ count_by (λ h. h.way == v) s.held
     part = sum_by-take-le (λ (h : Held). cond (h.way == v) 1 0) s.held (s.ways - 1)

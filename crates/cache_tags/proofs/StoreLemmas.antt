@@ -1,6 +1,6 @@
 -- How a cache's calls change what is stored.
-use Rattle.std.proofs.Common.{◌≡◌, ℕ, suc, zero, ◌+◌, ◌-◌, ◌/◌, ◌%◌, ◌^◌, ◌<◌, ◌≤◌, ◌==◌, Bool, true, false, List, [], ◌∷◌, ◌++◌, length, get_or, set, take, drop, map, replicate, ◌↔◌, refl, sym, ◌∙◌, ap, subst, arith, mod-lt, bit_and, Option, Some, None, ◌⊎◌, inl, inr}
-use Rattle.std.specs.Prelude.{All, is_some}
+use Rattle.std.proofs.Common.{◌≡◌, ℕ, suc, zero, ◌-◌, ◌/◌, ◌%◌, ◌^◌, ◌<◌, ◌≤◌, true, false, List, [], ◌∷◌, ◌++◌, length, get_or, set, take, drop, map, replicate, ◌↔◌, refl, sym, ◌∙◌, ap, subst, arith, mod-lt, bit_and, Option, Some, None, ◌⊎◌, inl, inr}
+use Rattle.std.specs.Prelude.{All, is_some, slice_get}
 use Rattle.std.specs.Option.{option_map}
 use Rattle.std.proofs.lemmas.Bool.{cases_eq, cases_lt}
 use Rattle.std.proofs.Math.Nat.{one-le-pow}
@@ -8,12 +8,12 @@ use Rattle.std.proofs.lemmas.Nat.{and_mask}
 use Rattle.std.proofs.lemmas.List.{append-nil, take_all, drop_all, length-replicate, length-map, length-set, map-set, get_or-map, get_or_past, get_or-set_same, get_or-set_other}
 use Rattle.std.proofs.lemmas.List.Elements.{All-same, All-replicate, All-set, All-nil, All-cons, All-take, All-map, All-weaker}
 use Rattle.std.proofs.lemmas.List.Sorted.{All-permutation}
-use Rattle.std.proofs.lemmas.Option.{slice_get_past}
+use Rattle.std.proofs.lemmas.Option.{slice_get_past, slice_get-map}
 use Rattle.cache_tags.specs.declared.place.Place.{Place}
 use Rattle.cache_tags.specs.declared.place.Victim.{Victim}
-use Rattle.cache_tags.specs.Line.{Line}
-use Rattle.cache_tags.specs.Held.{Held, CacheSet, victim, leaving, of_address, in_way, used, write_in, written_in, with_line, IsSoundSet}
-use Rattle.cache_tags.specs.Kept.{Kept, empty, found, installed, base_of, set_of, set_at, with_set, line_at, BelongsTo, IsSoundCache}
+use Rattle.cache_tags.specs.Line.{Line, victim}
+use Rattle.cache_tags.specs.Held.{Held, CacheSet, leaving, of_address, in_way, used, write_in, written_in, with_line, IsSoundSet}
+use Rattle.cache_tags.specs.Kept.{Kept, empty, found, installed, victim_of, lines_at, base_of, set_of, set_at, with_set, line_at, BelongsTo, IsSoundCache}
 use Rattle.cache_tags.specs.Store.{stored_cache, IsStoredCache}
 use Rattle.cache_tags.proofs.SoundLemmas.{past, empty_sound, used_permutes, write_address}
 
@@ -77,9 +77,10 @@ with_line_own t l base ok =
     All-cons (BelongsTo t s) _ (take (t.ways - 1) (set_at t s)) (refl, base) (All-take (BelongsTo t s) (t.ways - 1) (set_at t s) (ok.own s))
 
 -- no line leaves where a way is free, and there alone
-pub none_leaves : (ways : ℕ) (hs : List Held) → 0 < ways → (r : Option Victim) → r ≡ option_map victim (leaving ways hs) → (is_some r ≡ false) ↔ (length hs < ways)
-none_leaves ways hs some r e = (λ none. free (leaving ways hs) refl (ap is_some (sym e) ∙ none), λ room. ap is_some (e ∙ ap (option_map victim) (slice_get_past hs (ways - 1) (omega arith)))) where
-  free : (o : Option Held) → leaving ways hs ≡ o → is_some (option_map victim o) ≡ false → length hs < ways
+pub none_leaves : (ways : ℕ) (hs : List Held) → 0 < ways → (r : Option Victim) → r ≡ option_map (λ (h : Held). victim h.line) (leaving ways hs)
+    → (is_some r ≡ false) ↔ (length hs < ways)
+none_leaves ways hs some r e = (λ none. free (leaving ways hs) refl (ap is_some (sym e) ∙ none), λ room. ap is_some (e ∙ ap (option_map (λ (h : Held). victim h.line)) (slice_get_past hs (ways - 1) (omega arith)))) where
+  free : (o : Option Held) → leaving ways hs ≡ o → is_some (option_map (λ (h : Held). victim h.line) o) ≡ false → length hs < ways
   free None q k = omega (arith, past hs (ways - 1) q)
   free (Some h) q k = absurd cc
 
@@ -147,14 +148,17 @@ module _ (ways size shift mask : ℕ) (sets : List CacheSet) (ok : IsStoredCache
       ap (of_address b) (sym (set_read i s within read) ∙ ap (set_at (stored_cache ways size sets)) number)
 
   -- the place of what is found in the set
-  pub found_stored : (a i base : ℕ) (s : CacheSet) (r : Option ℕ) → i ≡ set_of (stored_cache ways size sets) a → base ≡ base_of (stored_cache ways size sets) a → s ≡ get_or sets i s
+  pub found_stored : (a i base : ℕ) (s : CacheSet) (r : Option ℕ) → i ≡ set_of (stored_cache ways size sets) a
+      → base ≡ base_of (stored_cache ways size sets) a → s ≡ get_or sets i s
       → r ≡ option_map (λ h. h.way) (of_address base s.held) → option_map (λ w. let p : Place = record { set = i; way = w } in p) r ≡ found (stored_cache ways size sets) a
   found_stored a i base s r number start read e =
       let t : Kept = stored_cache ways size sets in
       let there : of_address base s.held ≡ of_address (base_of t a) (set_at t (set_of t a)) = ap (λ b. of_address b s.held) start ∙ held_at (base_of t a) a i s number read in
       ap (option_map (λ w. let p : Place = record { set = i; way = w } in p)) (e ∙ ap (option_map (λ (h : Held). h.way)) there)
       ∙ (by (of_address (base_of t a) (set_at t (set_of t a))) ∙ ap (λ n. option_map (λ (h : Held). let p : Place = record { set = n; way = h.way } in p) (of_address (base_of t a) (set_at t (set_of t a)))) number) where
-        by : (o : Option Held) → option_map (λ w. let p : Place = record { set = i; way = w } in p) (option_map (λ (h : Held). h.way) o) ≡ option_map (λ (h : Held). let p : Place = record { set = i; way = h.way } in p) o
+        by : (o : Option Held)
+            → option_map (λ w. let p : Place = record { set = i; way = w } in p) (option_map (λ (h : Held). h.way) o)
+            ≡ option_map (λ (h : Held). let p : Place = record { set = i; way = h.way } in p) o
         by None = refl
         by (Some h) = refl
 
@@ -182,11 +186,24 @@ module _ (ways size shift mask : ℕ) (sets : List CacheSet) (ok : IsStoredCache
         (subst (λ n. All (BelongsTo t n) (with_line s.ways l s.held)) (sym number)
         (subst (λ hs. All (BelongsTo t (set_of t l.address)) hs) (sym line_in) (with_line_own t l base ok.sound)))
 
-    pub free_leaves_none : (r : Option Victim) → r ≡ option_map victim (leaving s.ways s.held) → (is_some r ≡ false) ↔ (length (set_at (stored_cache ways size sets) (set_of (stored_cache ways size sets) l.address)) < ways)
+    there : set_at (stored_cache ways size sets) (set_of (stored_cache ways size sets) l.address) ≡ s.held
+    there = sym (ap (set_at (stored_cache ways size sets)) number) ∙ set_read i s within read
+
+    -- what leaves is the last line of a full set
+    pub left_stored : (r : Option Victim) → r ≡ option_map (λ h. victim h.line) (leaving s.ways s.held) → r ≡ victim_of (stored_cache ways size sets) l.address
+    left_stored r e =
+        e ∙ (ap (λ n. option_map (λ (h : Held). victim h.line) (leaving n s.held)) (alike_read i s within read).0
+        ∙ (by (leaving ways s.held) ∙ ap (option_map victim) (sym (slice_get-map (λ (h : Held). h.line) s.held (ways - 1))
+        ∙ ap (λ hs. slice_get (map (λ (h : Held). h.line) hs) (ways - 1)) (sym there)))) where
+          by : (o : Option Held) → option_map (λ (h : Held). victim h.line) o ≡ option_map victim (option_map (λ (h : Held). h.line) o)
+          by None = refl
+          by (Some h) = refl
+
+    pub free_leaves_none : (r : Option Victim) → r ≡ option_map (λ h. victim h.line) (leaving s.ways s.held)
+        → (is_some r ≡ false) ↔ (length (lines_at (stored_cache ways size sets) (set_of (stored_cache ways size sets) l.address)) < ways)
     free_leaves_none r e =
-        let there = alike_read i s within read in
-        let held : set_at (stored_cache ways size sets) (set_of (stored_cache ways size sets) l.address) ≡ s.held = sym (ap (set_at (stored_cache ways size sets)) number) ∙ set_read i s within read in
-        rw held (none_leaves ways s.held ok.some r (e ∙ ap (λ n. option_map victim (leaving n s.held)) there.0))
+        rw (length-map (set_at (stored_cache ways size sets) (set_of (stored_cache ways size sets) l.address)) (λ (h : Held). h.line), there)
+        (none_leaves ways s.held ok.some r (e ∙ ap (λ n. option_map (λ (h : Held). victim h.line) (leaving n s.held)) (alike_read i s within read).0))
 
 -- all sets lose their lines
 abbrev pub without_lines : CacheSet → CacheSet
@@ -217,7 +234,8 @@ empty_cache_sound n ways line =
 pub all_cleared : (i : ℕ) (sets : List CacheSet) → length sets ≤ i → map without_lines (take i sets) ++ drop i sets ≡ map without_lines sets
 all_cleared i sets h = rw (take_all i sets h, drop_all i sets h) (append-nil (map without_lines sets))
 
-pub cleared_kept : (ways size shift mask : ℕ) (sets : List CacheSet) → IsStoredCache ways size shift mask sets → IsStoredCache ways size shift mask (map without_lines sets)
+pub cleared_kept : (ways size shift mask : ℕ) (sets : List CacheSet) → IsStoredCache ways size shift mask sets
+    → IsStoredCache ways size shift mask (map without_lines sets)
 cleared_kept ways size shift mask sets ok =
     let long : length (map without_lines sets) ≡ length sets = length-map sets without_lines in
     record {

@@ -1,16 +1,16 @@
 -- How a set's calls change what is stored.
-use Rattle.std.proofs.Common.{◌≡◌, ◌≢◌, ℕ, suc, zero, ◌+◌, ◌-◌, ◌<◌, ◌≤◌, ◌==◌, Bool, true, false, not, cond, List, [], ◌∷◌, ◌++◌, length, get_or, set, take, drop, replicate, map, refl, sym, ◌∙◌, ap, subst, arith, add-one, Option, Some, None, ◌⊎◌, inl, inr}
-use Rattle.std.specs.Prelude.{find, count_by, All, slice_get, is_some}
+use Rattle.std.proofs.Common.{◌≡◌, ◌≢◌, ℕ, suc, zero, ◌+◌, ◌-◌, ◌<◌, ◌≤◌, ◌==◌, Bool, true, false, List, [], ◌∷◌, ◌++◌, length, get_or, set, take, drop, replicate, map, refl, sym, ◌∙◌, ap, arith, add-one, Some, None, ◌⊎◌, inl, inr}
+use Rattle.std.specs.Prelude.{count_by, All, slice_get, is_some}
 use Rattle.std.specs.Option.{option_map, option_map_or}
 use Rattle.std.proofs.lemmas.Bool.{cases_eq, eq-eqb, ne_eqb}
-use Rattle.std.proofs.lemmas.List.{drop_more, drop-take, length-map, length-set, length-take, length-take-le, length-append, take_all, take_at, take-map, take-take, get_or-take, map-append, map-set, get_or-map, get_or_append_left, get_or_at, get_or-set_same, get_or-set_other, get_or_default}
+use Rattle.std.proofs.lemmas.List.{drop_more, drop-take, length-map, length-set, length-take, length-take-le, length-append, take_all, take_at, take-map, take-take, get_or-take, map-append, map-set, get_or-map, get_or_append_left, get_or_at, get_or-set_same, get_or-set_other}
 use Rattle.std.proofs.Math.Seq.{take-append-add}
 use Rattle.std.proofs.lemmas.List.Sums.{sum_by-cons}
 use Rattle.std.proofs.lemmas.List.Elements.{All-head, All-tail, All-weaker}
-use Rattle.std.proofs.lemmas.Option.{slice_get_within, slice_get_past, slice_get-get_or, get_or_from_slice_get, slice_get-map}
+use Rattle.std.proofs.lemmas.Option.{slice_get_within, slice_get_past, slice_get-get_or, slice_get-map}
 use Rattle.cache_tags.specs.declared.stored.Stored.{Stored}
 use Rattle.cache_tags.specs.Line.{Line, put_at, padded, rewritten}
-use Rattle.cache_tags.specs.Held.{Held, CacheSet, of_address, in_way, used, write_in, written_in, leaving, next_way, with_line, IsSoundSet}
+use Rattle.cache_tags.specs.Held.{Held, CacheSet, of_address, in_way, used, written_in, leaving, next_way, with_line, IsSoundSet}
 use Rattle.cache_tags.specs.Stored.{shown, held_in, in_order, stored_set, IsStoredSet}
 use Rattle.cache_tags.proofs.Counts.{bit, count_by-before}
 use Rattle.cache_tags.proofs.SoundLemmas.{written_sound, with_line_sound}
@@ -44,7 +44,8 @@ way_below n w (h ∷ hs) all e = by (way_below n w hs (All-tail (λ (h : Held). 
   by more (inr n) k = more (rw (ne_eqb h.way w n) at k)
 
 -- a line that is read in its way
-pub line_read : (size : ℕ) (lines : List Stored) (w : ℕ) (s : Stored) → w < length lines → s ≡ get_or lines w s → get_or (map (shown size) lines) w blank ≡ shown size s
+pub line_read : (size : ℕ) (lines : List Stored) (w : ℕ) (s : Stored) → w < length lines → s ≡ get_or lines w s
+    → get_or (map (shown size) lines) w blank ≡ shown size s
 line_read size lines w s h e = get_or-map (shown size) lines w s blank h ∙ ap (shown size) (sym e)
 
 -- what is found in what is left of the order, by the line that is read at a place
@@ -58,7 +59,8 @@ module _ (size : ℕ) (lines : List Stored) (ws : List ℕ) (i a : ℕ) (s : Sto
   pub found_next : s.addr ≡ a → of_address a (in_order (drop i ws) (map (shown size) lines)) ≡ Some (held_in (map (shown size) lines) (get_or ws i 0))
   found_next e = rw (left, eq-eqb (get_or (map (shown size) lines) (get_or ws i 0) blank).address a (line ∙ e)) refl
 
-  pub passed_next : (s.addr ≡ a → ⊥) → of_address a (in_order (drop i ws) (map (shown size) lines)) ≡ of_address a (in_order (drop (i + 1) ws) (map (shown size) lines))
+  pub passed_next : (s.addr ≡ a → ⊥)
+      → of_address a (in_order (drop i ws) (map (shown size) lines)) ≡ of_address a (in_order (drop (i + 1) ws) (map (shown size) lines))
   passed_next n = rw (left, ne_eqb (get_or (map (shown size) lines) (get_or ws i 0) blank).address a (λ e. n (sym line ∙ e))) refl
 
 -- the first of some bytes, with others over them
@@ -90,7 +92,8 @@ shown-written size offset s s' others fits h e =
     ap (shown size) e ∙ ap (λ bytes. let l : Line = record { address = s.addr; dirty = true; bytes = bytes } in l) (take-put_at size offset s.bytes others fits h)
 
 -- the first n of a list whose place r came to the front
-pub take-moved : (r n w : ℕ) (xs : List ℕ) → r < n → n ≤ length xs → take n (w ∷ take r xs ++ drop (suc r) xs) ≡ w ∷ take r (take n xs) ++ drop (suc r) (take n xs)
+pub take-moved : (r n w : ℕ) (xs : List ℕ) → r < n → n ≤ length xs
+    → take n (w ∷ take r xs ++ drop (suc r) xs) ≡ w ∷ take r (take n xs) ++ drop (suc r) (take n xs)
 take-moved r zero w xs h k = absurd (omega arith)
 take-moved r (suc m) w xs h k = ap (λ zs. w ∷ zs) (front r m xs (omega arith) (omega arith)) where
   front : (r m : ℕ) (xs : List ℕ) → r ≤ m → m < length xs → take m (take r xs ++ drop (suc r) xs) ≡ take r (take (suc m) xs) ++ drop (suc r) (take (suc m) xs)
@@ -125,7 +128,8 @@ in_order-set (w ∷ ws) ls v l none = by (in_order-set ws ls v l) (cases_eq w v)
   all : count_by (λ w. w == v) (w ∷ ws) ≡ bit (w == v) + count_by (λ w. w == v) ws
   all = sum_by-cons (λ (w : ℕ). bit (w == v)) w ws
 
-  by : (count_by (λ w. w == v) ws ≡ 0 → in_order ws (set ls v l) ≡ in_order ws ls) → (w ≡ v) ⊎ (w ≡ v → ⊥) → in_order (w ∷ ws) (set ls v l) ≡ in_order (w ∷ ws) ls
+  by : (count_by (λ w. w == v) ws ≡ 0 → in_order ws (set ls v l) ≡ in_order ws ls) → (w ≡ v) ⊎ (w ≡ v → ⊥)
+      → in_order (w ∷ ws) (set ls v l) ≡ in_order (w ∷ ws) ls
   by more (inl e) = let one : bit (w == v) ≡ 1 = rw (eq-eqb w v e) refl in absurd (omega (arith, one, all, none))
   by more (inr n) =
       let same : get_or (set ls v l) w blank ≡ get_or ls w blank = get_or-set_other ls v w l blank n in
@@ -186,7 +190,8 @@ module _ (ways size cap : ℕ) (order : List ℕ) (lines : List Stored) (ok : Is
   pub way_at : (n i : ℕ) → n ≡ length lines → i < length (take n order) → get_or (take n order) i 0 < length lines
   way_at n i e h = rw e (ways_below i 0 (rw e at h))
 
-  pub nth_here : (n i w : ℕ) → n ≡ length lines → slice_get (take n order) i ≡ Some w → slice_get (stored_set ways size order lines).held i ≡ Some (held_in (map (shown size) lines) w)
+  pub nth_here : (n i w : ℕ) → n ≡ length lines → slice_get (take n order) i ≡ Some w
+      → slice_get (stored_set ways size order lines).held i ≡ Some (held_in (map (shown size) lines) w)
   nth_here n i w e h =
       let f : ℕ → Held = held_in (map (shown size) lines) in
       slice_get-map f (take (length lines) order) i ∙ ap (option_map f) (rw e at h)
@@ -241,7 +246,8 @@ module _ (ways size cap : ℕ) (order : List ℕ) (lines : List Stored) (ok : Is
     pub none_leaves : leaving ways (stored_set ways size order lines).held ≡ None
     none_leaves = slice_get_past (stored_set ways size order lines).held (ways - 1) (omega (arith, length-held))
 
-    pub pushed_stored : stored_set ways size order' lines' ≡ record (stored_set ways size order lines) { held = with_line ways (shown size l) (stored_set ways size order lines).held }
+    pub pushed_stored : stored_set ways size order' lines'
+        ≡ record (stored_set ways size order lines) { held = with_line ways (shown size l) (stored_set ways size order lines).held }
     pushed_stored =
         let n : ℕ = length lines in
         let ls : List Line = map (shown size) lines in
@@ -293,7 +299,8 @@ module _ (ways size cap : ℕ) (order : List ℕ) (lines : List Stored) (ok : Is
         ap (λ n. slice_get (in_order (take (length lines) order) ls) (n - 1)) same
         ∙ (slice_get-map (held_in ls) (take (length lines) order) (length lines - 1) ∙ ap (option_map (held_in ls)) last_way)
 
-    pub replaced_stored : stored_set ways size order' lines' ≡ record (stored_set ways size order lines) { held = with_line ways (shown size l) (stored_set ways size order lines).held }
+    pub replaced_stored : stored_set ways size order' lines'
+        ≡ record (stored_set ways size order lines) { held = with_line ways (shown size l) (stored_set ways size order lines).held }
     replaced_stored =
         let n : ℕ = length lines in
         let ls : List Line = map (shown size) lines in

@@ -1,6 +1,6 @@
 -- A line that is used, and the list that it leaves.
-use Rattle.std.proofs.Common.{◌≡◌, ℕ, suc, zero, ◌+◌, ◌<◌, ◌≤◌, ◌==◌, Bool, true, false, not, cond, List, [], ◌∷◌, ◌++◌, length, get_or, take, drop, map, refl, sym, ◌∙◌, ap, arith, Option, Some, None, drop-cons}
-use Rattle.std.specs.Prelude.{find, filter, count_by, All, slice_get, is_some}
+use Rattle.std.proofs.Common.{◌≡◌, ℕ, suc, ◌+◌, ◌≤◌, ◌==◌, Bool, true, false, not, cond, List, [], ◌∷◌, ◌++◌, get_or, take, drop, refl, sym, ◌∙◌, ap, arith, Some, drop-cons}
+use Rattle.std.specs.Prelude.{filter, count_by, slice_get}
 use Rattle.std.specs.List.{sum_by}
 use Rattle.std.proofs.lemmas.Bool.{eq-eqb}
 use Rattle.std.proofs.lemmas.List.{nil_from_length, take-append-drop}
@@ -45,7 +45,8 @@ module _ {X : Type 0} (p : X → Bool) where
     filter-others = rw (filter-append (λ x. not (p x)) front (x ∷ back), filter-all front others_fail.0) (rw (passes, filter-all back others_fail.1) refl)
 
 -- the line in a way, which stands between others, comes to the front
-pub used-between : (w : ℕ) (front back : List Held) (h : Held) → h.way ≡ w → count_by (λ h. h.way == w) (front ++ h ∷ back) ≤ 1 → used w (front ++ h ∷ back) ≡ h ∷ (front ++ back)
+pub used-between : (w : ℕ) (front back : List Held) (h : Held) → h.way ≡ w → count_by (λ h. h.way == w) (front ++ h ∷ back) ≤ 1
+    → used w (front ++ h ∷ back) ≡ h ∷ (front ++ back)
 used-between w front back h e one =
     let p : Held → Bool = λ h. h.way == w in
     rw (filter-one p front back h (eq-eqb h.way w e) one, filter-others p front back h (eq-eqb h.way w e) one) refl

@@ -1,9 +1,8 @@
 -- The lines of one set, the most recently used first. This project's own rules.
-use Rattle.std.specs.Prelude.{ℕ, ◌-◌, ◌<◌, ◌≤◌, ◌≡◌, ◌==◌, if◌then◌else◌, Bool, not, List, [], ◌∷◌, ◌++◌, length, take, map, filter, find, count_by, All, slice_get, Option}
-use Rattle.std.specs.Option.{option_map, option_map_or}
+use Rattle.std.specs.Prelude.{ℕ, ◌-◌, ◌<◌, ◌≤◌, ◌≡◌, ◌==◌, if◌then◌else◌, not, List, ◌∷◌, ◌++◌, length, take, map, filter, find, count_by, All, slice_get, Option}
+use Rattle.std.specs.Option.{option_map_or}
 use Rattle.cache_tags.specs.declared.place.LineAt.{LineAt}
-use Rattle.cache_tags.specs.declared.place.Victim.{Victim}
-use Rattle.cache_tags.specs.Line.{Line, rewritten, padded}
+use Rattle.cache_tags.specs.Line.{Line, rewritten}
 
 -- a line that a set holds, and the way that it stands in
 pub record Held : Type 0 where
@@ -48,15 +47,12 @@ next_way ways hs = option_map_or (λ h. h.way) (leaving ways hs) (length hs)
 abbrev pub with_line : ℕ → Line → List Held → List Held
 with_line ways l hs = record { way = next_way ways hs; line = l } ∷ take (ways - 1) hs
 
--- a line that leaves, with its bytes in front and zeros behind
-abbrev pub victim : Held → Victim
-victim h = record { addr = h.line.address; dirty = h.line.dirty; bytes = padded h.line.bytes }
-
 -- a line of the set with this number, as it is told
 abbrev pub line_info : ℕ → Held → LineAt
 line_info s h = record { addr = h.line.address; dirty = h.line.dirty; at = record { set = s; way = h.way } }
 
--- the lines are no more than the ways and are whole; at most one is of an address, and one in a way; and the ways that are taken come before those that are free
+-- the lines are no more than the ways, and are whole; at most one is of an address, and one in a way; and the ways that are
+-- taken come before those that are free
 pub record IsSoundSet (s : CacheSet) : Type 0 where
   pub few : length s.held ≤ s.ways
   pub whole : All (λ h. length h.line.bytes ≡ s.line) s.held

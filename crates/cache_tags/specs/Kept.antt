@@ -1,11 +1,11 @@
 -- What a cache keeps: its sets, and in each of them lines, the most recently used first. This project's own rules.
-use Rattle.std.specs.Prelude.{ℕ, ◌≡◌, ◌≢◌, ◌==◌, ◌+◌, ◌-◌, ◌/◌, ◌%◌, ◌<◌, ◌≤◌, Bool, List, [], length, map, find, replicate, slice_index_or, slice_set, slice_get, All, Option}
-use Rattle.std.specs.Option.{option_map, option_and_then}
+use Rattle.std.specs.Prelude.{ℕ, ◌≡◌, ◌≢◌, ◌==◌, ◌-◌, ◌/◌, ◌%◌, List, [], length, map, find, replicate, slice_index_or, slice_set, slice_get, All, Option}
+use Rattle.std.specs.Option.{option_map}
 use Rattle.cache_tags.specs.declared.place.Place.{Place}
 use Rattle.cache_tags.specs.declared.place.LineAt.{LineAt}
 use Rattle.cache_tags.specs.declared.place.Victim.{Victim}
-use Rattle.cache_tags.specs.Line.{Line}
-use Rattle.cache_tags.specs.Held.{Held, CacheSet, of_address, in_way, used, written_in, leaving, with_line, victim, line_info, IsSoundSet}
+use Rattle.cache_tags.specs.Line.{Line, in_front, in_place, come_in, leaving_line, victim}
+use Rattle.cache_tags.specs.Held.{Held, of_address, in_way, used, written_in, with_line, line_info, IsSoundSet}
 
 -- how many ways a set has, how many bytes a line has, and the lines of each set, the most recently used first
 pub record Kept : Type 0 where
@@ -40,6 +40,18 @@ lines_of t = map (λ hs. map (λ h. h.line) hs) t.sets
 abbrev pub with_lines : Kept → ℕ → List Line → List (List Line)
 with_lines t s ls = slice_set (lines_of t) s ls
 
+-- those with this line of a set as the most recently used
+abbrev pub lines_with_used : Kept → ℕ → Line → List (List Line)
+lines_with_used t s l = with_lines t s (in_front l (lines_at t s))
+
+-- those with this line of a set in place of the one of its address
+abbrev pub lines_with_changed : Kept → ℕ → Line → List (List Line)
+lines_with_changed t s l = with_lines t s (in_place l (lines_at t s))
+
+-- those with this line come into a set
+abbrev pub lines_with_new : Kept → ℕ → Line → List (List Line)
+lines_with_new t s l = with_lines t s (come_in t.ways l (lines_at t s))
+
 -- the line that an address lies in, where it is kept
 abbrev pub line_of : Kept → ℕ → Option Line
 line_of t a = find (λ l. l.address == base_of t a) (lines_at t (set_of t a))
@@ -66,7 +78,7 @@ installed t l = with_set t (set_of t l.address) (with_line t.ways l (set_at t (s
 
 -- the line that leaves as one of this address comes
 abbrev pub victim_of : Kept → ℕ → Option Victim
-victim_of t a = option_map victim (leaving t.ways (set_at t (set_of t a)))
+victim_of t a = option_map victim (leaving_line t.ways (lines_at t (set_of t a)))
 
 -- a cache with so many sets that keeps nothing
 abbrev pub empty : ℕ → ℕ → ℕ → Kept

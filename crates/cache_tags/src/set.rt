@@ -1,7 +1,8 @@
 // One set of a cache.
 ghost use Rattle.std.specs.Prelude.{◌≡◌, ◌≢◌, ◌+◌, ◌<◌, ◌≤◌, [], ◌∷◌, ◌++◌, length, take, drop, Some, None, IsSome, IfSome, IfNone, IfOk, All, slice_get};
 ghost use Rattle.std.specs.Option.{option_map};
-ghost use Rattle.cache_tags.specs.Held.{of_address, in_way, used, written_in, leaving, with_line, victim, line_info, IsSoundSet};
+ghost use Rattle.cache_tags.specs.Line.{new_line, victim};
+ghost use Rattle.cache_tags.specs.Held.{of_address, in_way, used, written_in, leaving, with_line, line_info, IsSoundSet};
 
 use crate::place::{LineAt, Place, Victim};
 use crate::stored::{Stored, pad, put};
@@ -118,8 +119,8 @@ impl Set {
     pub(crate) fn install(&mut self, addr: u64, bytes: &[u8], dirty: bool) -> Option<Victim>
         requires whole { length bytes.now ≡ self.old.line }
         requires absent { of_address addr self.old.held ≡ None }
-        ensures installed { self.new ≡ record self.old { held = with_line self.old.ways (record { address = addr; dirty = dirty; bytes = bytes.now }) self.old.held } }
-        ensures victim { result ≡ option_map victim (leaving self.old.ways self.old.held) }
+        ensures installed { self.new ≡ record self.old { held = with_line self.old.ways (new_line addr dirty bytes.now) self.old.held } }
+        ensures victim { result ≡ option_map (λ h. victim h.line) (leaving self.old.ways self.old.held) }
         ensures sound { IsSoundSet self.new }
     {
         let taken = self.lines.len();

@@ -2,8 +2,8 @@
 ghost use Rattle.std.specs.Prelude.{◌≡◌, ◌+◌, ◌^◌, ◌<◌, ◌≤◌, ◌%◌, ◌==◌, ◌||◌, ◌↔◌, length, IsTrue, IsSome, IsNone, IfSome, IfNone, IfOk, Some, None, slice_get};
 ghost use Rattle.std.specs.Option.{option_map};
 ghost use Rattle.std.specs.Int.{is_power_of_two};
-ghost use Rattle.cache_tags.specs.Line.{rewritten, in_front, in_place, come_in};
-ghost use Rattle.cache_tags.specs.Kept.{base_of, set_of, set_at, lines_at, lines_of, with_lines, line_of, line_at, found, touched, written, installed, victim_of, empty, emptied, nth_line, KeepsPlaces, KeepsOtherPlaces, IsSoundCache};
+ghost use Rattle.cache_tags.specs.Line.{new_line, rewritten};
+ghost use Rattle.cache_tags.specs.Kept.{base_of, set_of, lines_at, lines_of, lines_with_used, lines_with_changed, lines_with_new, line_of, line_at, found, touched, written, installed, victim_of, empty, emptied, nth_line, KeepsPlaces, KeepsOtherPlaces, IsSoundCache};
 
 use crate::place::{LineAt, Place, Victim};
 use crate::set::Set;
@@ -92,7 +92,7 @@ impl Tags {
     pub fn touch(&mut self, at: Place)
         requires { IsSome (line_at self.old at) }
         ensures touched { self.new ≡ touched self.old at }
-        ensures lines { IfSome (line_at self.old at) (λ l. lines_of self.new ≡ with_lines self.old at.set (in_front l (lines_at self.old at.set))) }
+        ensures lines { IfSome (line_at self.old at) (λ l. lines_of self.new ≡ lines_with_used self.old at.set l) }
         ensures places { KeepsPlaces self.old self.new }
         ensures sound { IsSoundCache self.new }
     {
@@ -113,7 +113,7 @@ impl Tags {
         requires place { IsSome (line_at self.old at) }
         requires fits { offset + length bytes.now ≤ self.old.line }
         ensures written { self.new ≡ written self.old at offset bytes.now }
-        ensures lines { IfSome (line_at self.old at) (λ l. lines_of self.new ≡ with_lines self.old at.set (in_place (rewritten l offset bytes.now) (lines_at self.old at.set))) }
+        ensures lines { IfSome (line_at self.old at) (λ l. lines_of self.new ≡ lines_with_changed self.old at.set (rewritten l offset bytes.now)) }
         ensures line { line_at self.new at ≡ option_map (λ l. rewritten l offset bytes.now) (line_at self.old at) }
         ensures others { KeepsOtherPlaces self.old self.new at }
         ensures sound { IsSoundCache self.new }
@@ -126,10 +126,10 @@ impl Tags {
         requires base { addr % self.old.line ≡ 0 }
         requires whole { length bytes.now ≡ self.old.line }
         requires absent { line_of self.old addr ≡ None }
-        ensures installed { self.new ≡ installed self.old (record { address = addr; dirty = dirty; bytes = bytes.now }) }
-        ensures lines { lines_of self.new ≡ with_lines self.old (set_of self.old addr) (come_in self.old.ways (record { address = addr; dirty = dirty; bytes = bytes.now }) (lines_at self.old (set_of self.old addr))) }
+        ensures installed { self.new ≡ installed self.old (new_line addr dirty bytes.now) }
+        ensures lines { lines_of self.new ≡ lines_with_new self.old (set_of self.old addr) (new_line addr dirty bytes.now) }
         ensures victim { result ≡ victim_of self.old addr }
-        ensures free { IsNone result ↔ (length (set_at self.old (set_of self.old addr)) < self.old.ways) }
+        ensures free { IsNone result ↔ (length (lines_at self.old (set_of self.old addr)) < self.old.ways) }
         ensures sound { IsSoundCache self.new }
     {
         let set = self.set_of(addr);

@@ -1,5 +1,5 @@
-use Rattle.std.proofs.Common.{◌≡◌, ◌∷◌, ◌<◌, length, get_or, suc, refl, sym, ◌∙◌, ap, arith, add-one}
-use Rattle.cache_tags.proofs.Orders.{over, over_more, over_read}
+use Rattle.std.proofs.Common.{◌∷◌, ◌<◌, length, refl, sym, ◌∙◌, arith, add-one}
+use Rattle.cache_tags.proofs.Orders.{over_more, over_read}
 use Rattle.cache_tags.proofs.set.put_in_front.Goals as goal
 
 pub loop-rank-preserved : goal.loop-rank-preserved

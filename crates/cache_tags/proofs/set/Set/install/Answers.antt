@@ -1,10 +1,8 @@
-use Rattle.std.proofs.Common.{◌≡◌, ◌∙◌, ℕ, ◌<◌, ◌-◌, ◌≤◌, ap, refl, sym, arith, length, get_or, set, take, Some, None}
+use Rattle.std.proofs.Common.{◌≡◌, ◌∙◌, ℕ, ◌-◌, ap, refl, sym, arith, length, get_or, set}
 use Rattle.std.specs.Option.{option_map}
-use Rattle.cache_tags.specs.declared.stored.Stored.{Stored}
-use Rattle.cache_tags.specs.declared.place.Victim.{Victim}
-use Rattle.cache_tags.specs.Line.{Line, padded}
-use Rattle.cache_tags.specs.Held.{Held, victim, of_address}
-use Rattle.cache_tags.specs.Stored.{shown, stored_set, held_in}
+use Rattle.cache_tags.specs.Line.{victim}
+use Rattle.cache_tags.specs.Held.{Held}
+use Rattle.cache_tags.specs.Stored.{stored_set}
 use Rattle.cache_tags.proofs.StoredLemmas.{with_front, shown-padded, none_leaves, pushed_stored, pushed_kept, last_low, one_leaves, replaced_stored, replaced_kept, line_read}
 use Rattle.cache_tags.proofs.set.Set.install.Goals as goal
 
@@ -34,7 +32,7 @@ pub returns-then-taken-self-clause-victim : goal.returns-then-taken-self-clause-
 returns-then-taken-self-clause-victim c =
     let taken : length c.self.inside.lines.items ≡ c.len-taken.result = omega (arith, c.len-taken.ensures, c.self.inside.lines.ok.0) in
     rw (← c.self.view_is)
-    (ap (option_map victim) (sym (none_leaves _ _ _ _ _ c.self.invariant (record { addr = c.args.addr; dirty = c.args.dirty; bytes = c.pad-bytes.result })
+    (ap (option_map (λ (h : Held). victim h.line)) (sym (none_leaves _ _ _ _ _ c.self.invariant (record { addr = c.args.addr; dirty = c.args.dirty; bytes = c.pad-bytes.result })
     c.put_in_front.new.order c.push_reserved.new.self.items (omega (arith, taken)) (rw taken c.put_in_front.ensures) c.push_reserved.ensures.items)))
 
 pub returns-then-taken-self-clause-sound : goal.returns-then-taken-self-clause-sound

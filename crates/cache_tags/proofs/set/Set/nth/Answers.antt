@@ -1,9 +1,5 @@
-use Rattle.std.proofs.Common.{◌≡◌, ◌∙◌, ℕ, ◌<◌, ap, refl, sym, arith, Some, List, length, get_or, take, map}
-use Rattle.std.specs.Prelude.{slice_get}
-use Rattle.std.specs.Option.{option_map}
-use Rattle.std.proofs.lemmas.Option.{slice_get_read, get_or_from_slice_get}
-use Rattle.cache_tags.specs.Line.{Line}
-use Rattle.cache_tags.specs.Held.{line_info}
+use Rattle.std.proofs.Common.{◌≡◌, ◌<◌, refl, arith, length, take}
+use Rattle.std.proofs.lemmas.Option.{slice_get_read}
 use Rattle.cache_tags.proofs.StoredLemmas.{way_at, nth_here, line_read}
 use Rattle.cache_tags.proofs.set.Set.nth.Goals as goal
 

@@ -1,11 +1,9 @@
-use Rattle.std.proofs.Common.{◌≡◌, ◌∙◌, refl, sym, ℕ, ◌+◌, ap, arith, Some, length, take, drop, List, ◌∷◌, ◌++◌}
+use Rattle.std.proofs.Common.{◌≡◌, ◌∙◌, refl, sym, ap, arith, Some, length, take}
 use Rattle.std.specs.Prelude.{slice_get}
 use Rattle.std.proofs.lemmas.List.{length-take}
 use Rattle.std.proofs.lemmas.Option.{slice_get_within}
-use Rattle.cache_tags.specs.Held.{CacheSet, used}
-use Rattle.cache_tags.specs.Stored.{stored_set}
 use Rattle.cache_tags.proofs.SoundLemmas.{used_sound}
-use Rattle.cache_tags.proofs.StoredLemmas.{no_way, way_here, length-ways, touched_stored, stored_again}
+use Rattle.cache_tags.proofs.StoredLemmas.{no_way, way_here, touched_stored, stored_again}
 use Rattle.cache_tags.proofs.set.Set.touch.Goals as goal
 
 pub overflow_cast-way : goal.overflow_cast-way

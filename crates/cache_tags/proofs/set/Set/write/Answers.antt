@@ -1,4 +1,4 @@
-use Rattle.std.proofs.Common.{◌≡◌, ◌∙◌, ℕ, ◌+◌, ◌≤◌, ap, refl, arith, length, true, set}
+use Rattle.std.proofs.Common.{◌≡◌, ◌+◌, ◌≤◌, ap, refl, arith, length, true, set}
 use Rattle.cache_tags.specs.declared.stored.Stored.{Stored}
 use Rattle.cache_tags.specs.Line.{rewritten}
 use Rattle.cache_tags.specs.Stored.{shown}

@@ -1,4 +1,4 @@
-use Rattle.std.proofs.Common.{◌≡◌, ◌∙◌, ap, refl, sym, subst, ℕ, Some, None}
+use Rattle.std.proofs.Common.{◌∙◌, ap, refl, sym, subst, Some}
 use Rattle.std.specs.Option.{option_map}
 use Rattle.cache_tags.specs.declared.place.Place.{Place}
 use Rattle.cache_tags.specs.Kept.{IsSoundCache}

@@ -1,7 +1,7 @@
-use Rattle.std.proofs.Common.{◌≡◌, ◌∙◌, subst}
+use Rattle.std.proofs.Common.{◌∙◌, subst}
 use Rattle.cache_tags.specs.Kept.{IsSoundCache}
 use Rattle.cache_tags.specs.Store.{stored_cache}
-use Rattle.cache_tags.proofs.StoreLemmas.{held_at, installed_stored, installed_kept, free_leaves_none}
+use Rattle.cache_tags.proofs.StoreLemmas.{held_at, installed_stored, installed_kept, left_stored, free_leaves_none}
 use Rattle.cache_tags.proofs.PlaceLemmas.{after_install_lines, absent_held}
 use Rattle.cache_tags.proofs.tags.Tags.install.Goals as goal
 
@@ -35,3 +35,9 @@ install-requires-clause-absent c =
     let number = rw (← c.self.view_is) at c.set_of-set.ensures in
     held_at _ _ _ _ _ c.self.invariant c.args.addr c.args.addr c.set_of-set.result c.index_mut.result.now number c.index_mut.ensures.value
     ∙ absent_held (stored_cache c.self.inside.ways c.self.inside.line c.self.inside.sets.items) c.args.addr (rw (← c.self.view_is) at c.requires.base) (rw (← c.self.view_is) at c.requires.absent)
+
+pub returns-clause-victim : goal.returns-clause-victim
+returns-clause-victim c =
+    rw (← c.self.view_is)
+    (left_stored _ _ _ _ _ c.self.invariant (record { address = c.args.addr; dirty = c.args.dirty; bytes = c.args.bytes.now }) c.set_of-set.result c.index_mut.result.now c.install.new.self
+    (rw (← c.self.view_is) at c.set_of-set.ensures) c.index_mut.ensures.value c.install.ensures.installed c.install.result c.install.ensures.victim)

@@ -1,5 +1,4 @@
-use Rattle.std.proofs.Common.{◌≡◌, ◌∙◌, ap, refl, sym, arith, replicate, []}
-use Rattle.cache_tags.specs.Held.{CacheSet}
+use Rattle.std.proofs.Common.{◌≡◌, ◌∙◌, ap, arith, replicate, []}
 use Rattle.cache_tags.specs.Kept.{Kept}
 use Rattle.cache_tags.specs.Store.{stored_cache}
 use Rattle.cache_tags.proofs.PowerLemmas.{power_of}

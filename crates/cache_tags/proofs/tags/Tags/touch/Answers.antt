@@ -1,6 +1,6 @@
-use Rattle.std.proofs.Common.{◌≡◌, ◌∙◌, ap, sym, subst}
-use Rattle.cache_tags.specs.Held.{CacheSet, used}
-use Rattle.cache_tags.specs.Kept.{set_at, with_set, IsSoundCache}
+use Rattle.std.proofs.Common.{◌∙◌, ap, sym, subst}
+use Rattle.cache_tags.specs.Held.{used}
+use Rattle.cache_tags.specs.Kept.{with_set, IsSoundCache}
 use Rattle.cache_tags.specs.Store.{stored_cache}
 use Rattle.cache_tags.proofs.StoreLemmas.{place_stored, used_own, set_read, set_stored, set_kept}
 use Rattle.cache_tags.proofs.PlaceLemmas.{after_touch_lines, after_touch_places}
