@@ -20,6 +20,7 @@ use Rattle.gm_system.specs.Runs.{IsRunOf, RunsHold}
 use Rattle.gm_system.specs.System.{IsWiredAlike}
 use Rattle.gm_system.proofs.Commands.{drained_steady, resumed_steady, drained_state, resumed_program, input_steady, input_state, drained_packets, resumed_packets, input_packets}
 use Rattle.gm_system.proofs.Deliveries.{alike}
+use Rattle.gm_system.proofs.Numbers.{numbers_differ, start_numbered}
 use Rattle.gm_system.proofs.Runs.{fire_of, replays_then, drawn-append, fire_tick, timed_of}
 
 -- a command notes nothing, and moves no packet
@@ -76,4 +77,9 @@ any_run_holds s table (p ∷ ps) h =
     run_then s (picked s p) (any_run (picked s p).sys ps) table one (any_run_holds (picked s p).sys table ps one.sound)
 
 pub runs_hold : RunsHold
-runs_hold = record { picks = any_run_holds; timed = timed_of }
+runs_hold = record {
+  picks = any_run_holds;
+  numbered = start_numbered;
+  differ = λ s table ps h before. numbers_differ s (any_run s ps) table (any_run_holds s table ps h) before;
+  timed = timed_of;
+}

@@ -23,6 +23,7 @@ pub mod Runs
 pub mod Alike
 pub mod Commands
 pub mod Started
+pub mod Numbers
 pub mod AnyRuns
 pub mod AllLaws
 pub mod ForKernel
