@@ -7,8 +7,9 @@
 
 Run by hand, and by bench/differ_machine.py beside the program. IMAGE is a raw image, an ELF file, or, other than the program's, a
 source (a name that ends in .s). It is not proved, and it tells no faults apart: a configuration, a source or a script that is wrong raises.
-It knows two lines of scripts that the program doesn't have yet: `drain`, which goes on until nothing is on its way, and `switch atomic` or
-`switch timing`, which drains and hands the hart to the other CPU.
+It knows what the program doesn't have yet: one to three caches between the crossbars, and these lines of scripts: `drain`, which goes on
+until nothing is on its way; `switch atomic` and `switch timing`, which drain, write all lines back, forget them and hand the hart to the
+other CPU; `dump ADDRESS COUNT`, what a load would see, `raw ADDRESS COUNT`, what memory has, and `lines PATH`, the lines of a cache.
 
 As a module: run(config, image, script) gives a Result. The image is bytes or a list of words.
 """
@@ -28,6 +29,8 @@ EXIT = 0x00100000
 LAST_TICK = 1 << 62
 MOST_INPUT = 256
 MOST_ACTS = 256
+# What the hart and the DMA engine ask for is noted where it is served, and what caches ask for isn't.
+MOST_NOTED = 2
 
 
 def signed(value, bits):
@@ -505,7 +508,7 @@ class Packet:
         if self.command == "Read":
             self.command = "ReadResp"
             self.data = bytes(self.size) if self.fault else data
-        else:
+        elif self.command == "Write":
             self.command = "WriteResp"
 
     def loaded(self):
@@ -546,6 +549,10 @@ class Part:
 
     def note(self, *entry):
         self.machine.entries.append(entry)
+
+    def note_served(self, packet, is_ram):
+        if packet.source <= MOST_NOTED:
+            self.note("served", packet, is_ram)
 
     def wake(self, kind, *rest):
         self.wakes += 1
@@ -862,13 +869,19 @@ class Server(Part):
         self.schedule(0, DEVICES, self.machine.now + self.latency)
 
     def on_event(self, slot):
-        if slot == 0:
-            self.serve(self.packets[0])
+        if slot != 0:
+            self.own_event()
+            return
+        self.serve(self.packets[0])
+        if self.packets[0].is_response():
             self.act("offer", 0, self.packets[0])
         else:
-            self.own_event()
+            self.remove_first()
 
     def on_taken(self, port):
+        self.remove_first()
+
+    def remove_first(self):
         self.packets.pop(0)
         if self.packets:
             self.serve_later()
@@ -889,7 +902,7 @@ class Server(Part):
     def serve(self, packet):
         """access: what was read or written, None where the access is refused."""
         packet.answer(self.access(packet))
-        self.note("served", packet, self.is_ram)
+        self.note_served(packet, self.is_ram)
 
     def is_drained(self):
         return not self.packets and not self.has_waiter and not self.machine.queue.has(self.path, 0)
@@ -905,7 +918,7 @@ class Memory(Server):
     def access(self, packet):
         first = packet.address - RAM
         assert 0 <= first and first + packet.size <= len(self.ram)
-        if packet.command == "Write":
+        if packet.command in ("Write", "WriteBack"):
             self.ram[first:first + packet.size] = packet.data
         return bytes(self.ram[first:first + packet.size])
 
@@ -1000,13 +1013,172 @@ class ExitDevice(Server):
         return packet.data
 
 
+# Caches.
+
+class Line:
+    def __init__(self, address, data, is_dirty):
+        self.address, self.data, self.is_dirty = address, bytearray(data), is_dirty
+
+
+class Outgoing:
+    """The packets that leave by a port, each with the tick from which on it may."""
+
+    def __init__(self, port, rank):
+        self.port, self.rank = port, rank
+        self.packets = []
+
+
+class Cache(Part):
+    """It stands between two others: its port 0 is above, and its port 1 below."""
+
+    def __init__(self, machine, path, settings, line_size):
+        super().__init__(machine, path)
+        self.source = 3 + int(path[-1])
+        self.line_size = line_size
+        self.ways, self.register_count, self.target_count = settings["ways"], settings["mshrs"], settings["targets"]
+        self.write_places, self.latency = settings["writeq"], settings["latency"]
+        # By set, the most recently used first.
+        self.sets = [[] for _ in range(settings["sets"])]
+        # By the address of a line that is on its way: who waits for it.
+        self.registers = {}
+        self.answers, self.leaving = Outgoing(0, RESPONSES), Outgoing(1, REQUESTS)
+        self.has_waiter = False
+
+    def outgoing(self, port):
+        return self.leaving if port else self.answers
+
+    def set_of(self, address):
+        return self.sets[address // self.line_size % len(self.sets)]
+
+    def line_of(self, address):
+        base = address - address % self.line_size
+        return next((line for line in self.set_of(base) if line.address == base), None)
+
+    def is_blocked(self):
+        free = self.write_places - sum(packet.command == "WriteBack" for packet, _ in self.leaving.packets)
+        return (len(self.registers) >= self.register_count or any(len(targets) >= self.target_count for targets in self.registers.values())
+                or free < len(self.registers) + 1)
+
+    def put(self, outgoing, packet):
+        outgoing.packets.append((packet, self.machine.now + self.latency))
+        if len(outgoing.packets) == 1:
+            self.schedule(outgoing.port, outgoing.rank, outgoing.packets[0][1])
+
+    def on_offer(self, port, packet):
+        if port == 1:
+            self.returns(packet)
+        elif self.is_blocked():
+            self.has_waiter = True
+            self.note("refused", self.path)
+            return False
+        elif not self.machine.has_ram_at(packet.address):
+            self.put(self.leaving, packet)
+        else:
+            self.take(packet)
+        self.end()
+        return True
+
+    def take(self, packet):
+        base = packet.address - packet.address % self.line_size
+        line = self.line_of(base)
+        if packet.command != "WriteBack":
+            self.note("miss" if line is None else "hit", self.path)
+        if line is not None:
+            self.serve(line, packet)
+        elif base in self.registers:
+            self.registers[base].append(packet)
+        elif packet.command == "WriteBack":
+            self.install(Line(base, packet.data, True))
+        else:
+            self.registers[base] = [packet]
+            self.put(self.leaving, Packet(self.machine.draw(), self.source, "Read", base, self.line_size))
+
+    def serve(self, line, packet):
+        lines = self.set_of(line.address)
+        lines.remove(line)
+        lines.insert(0, line)
+        first = packet.address - line.address
+        if packet.command == "Read":
+            packet.answer(bytes(line.data[first:first + packet.size]))
+        else:
+            line.data[first:first + packet.size] = packet.data
+            line.is_dirty = True
+            packet.answer(packet.data)
+        if packet.is_response():
+            self.put(self.answers, packet)
+            self.note_served(packet, True)
+
+    def install(self, line):
+        lines = self.set_of(line.address)
+        victim = lines.pop() if len(lines) == self.ways else None
+        lines.insert(0, line)
+        if victim is not None and victim.is_dirty:
+            self.put(self.leaving, Packet(self.machine.draw(), self.source, "WriteBack", victim.address, self.line_size, bytes(victim.data)))
+
+    def returns(self, packet):
+        if not self.machine.has_ram_at(packet.address):
+            self.put(self.answers, packet)
+            return
+        targets = self.registers.pop(packet.address)
+        line = Line(packet.address, packet.data, False)
+        self.install(line)
+        for target in targets:
+            self.serve(line, target)
+
+    def on_event(self, slot):
+        self.offer_first(slot)
+
+    def on_retry(self, port):
+        self.offer_first(port)
+
+    def offer_first(self, port):
+        self.act("offer", port, self.outgoing(port).packets[0][0])
+        self.end()
+
+    def on_refused(self, port):
+        self.end()
+
+    def on_taken(self, port):
+        outgoing = self.outgoing(port)
+        outgoing.packets.pop(0)
+        if outgoing.packets:
+            self.schedule(port, outgoing.rank, max(self.machine.now, outgoing.packets[0][1]))
+        self.end()
+
+    def end(self):
+        """Calls who was refused, as soon as its packet could be taken."""
+        if self.has_waiter and not self.is_blocked():
+            self.has_waiter = False
+            self.act("retry", 0)
+
+    def atomic(self, packet):
+        return 1, 0
+
+    def is_drained(self):
+        return not self.answers.packets and not self.leaving.packets and not self.registers and not self.has_waiter
+
+    def lines(self):
+        """Its lines, each with the number of its set."""
+        return [(number, line) for number, lines in enumerate(self.sets) for line in lines]
+
+    def newest_back(self, base):
+        """The bytes of the line in the newest of its write-backs, None where there is none."""
+        packets = self.registers.get(base, []), [packet for packet, _ in self.leaving.packets]
+        for packet in itertools.chain(reversed(packets[0]), reversed(packets[1])):
+            if packet.command == "WriteBack" and packet.address == base:
+                return packet.data
+        return None
+
+
 # The machine.
 
 COUNTERS = ["corebus.refused", "cpu.retired", "cpu.sleeps", "cpu.traps", "device.reads", "device.writes", "mem.refused", "membus.refused",
             "ram.reads", "ram.writes", "sim.events"]
 COUNTED = {"retired": "cpu.retired", "slept": "cpu.sleeps", "trapped": "cpu.traps"}
+NAMED = {"refused": "refused", "hit": "hits", "miss": "misses"}
 CPU_PATHS = {"atomic": "acpu", "timing": "tcpu"}
-WIRES = [(("corebus", 3), ("membus", 0)), (("membus", 1), ("mem", 0)), (("membus", 2), ("uart", 0)), (("membus", 3), ("timer", 0)),
+CACHES = ("cache1", "cache2", "cache3")
+WIRES = [(("membus", 1), ("mem", 0)), (("membus", 2), ("uart", 0)), (("membus", 3), ("timer", 0)),
          (("membus", 4), ("exit", 0)), (("tcpu", 0), ("corebus", 0)), (("tcpu", 1), ("corebus", 1))]
 
 
@@ -1015,8 +1187,10 @@ def make_parts(machine, config):
     devices = {2: (UART, UART + 0xFFF), 3: (TIMER, TIMER + 0xFFFF), 4: (EXIT, EXIT + 0xFFF)}
     ranges = {1: (RAM, RAM + machine.ram_size - 1), **devices}
     period = config["cpu"]["period"]
+    line_size = config["system"]["line"]
     return {
         "acpu": AtomicCpu(machine, "acpu", period),
+        **{path: Cache(machine, path, config[path], line_size) for path in CACHES if path in config},
         "corebus": Crossbar(machine, "corebus", config["corebus"]["latency"], [0, 1, 2], {3: (0, ALL_ONES)}, False),
         "exit": ExitDevice(machine, "exit", config["exit"]["latency"], 1),
         "mem": Memory(machine, config["mem"]["latency"], config["mem"]["queue"], machine.ram_size),
@@ -1025,6 +1199,12 @@ def make_parts(machine, config):
         "timer": Timer(machine, config["timer"]["latency"], config["timer"]["period"]),
         "uart": Uart(machine, config["uart"]["latency"], config["uart"]["chartime"]),
     }
+
+
+def chain_wires(paths):
+    """From one crossbar through the caches to the other."""
+    ends = [("corebus", 3)] + [(path, 1) for path in paths]
+    return list(zip(ends, [(path, 0) for path in paths] + [("membus", 0)]))
 
 
 class Machine:
@@ -1038,9 +1218,12 @@ class Machine:
         self.entries = []
         self.byte = None
         self.tracing = False
-        self.counts = dict.fromkeys(COUNTERS, 0)
         self.parts = make_parts(self, config)
-        self.peers = {**dict(WIRES), **{second: first for first, second in WIRES}}
+        self.caches = [part for path, part in self.parts.items() if path in CACHES]
+        names = [f"{cache.path}.{name}" for cache in self.caches for name in ("hits", "misses", "refused")]
+        self.counts = dict.fromkeys(names + COUNTERS, 0)
+        wires = WIRES + chain_wires([cache.path for cache in self.caches])
+        self.peers = {**dict(wires), **{second: first for first, second in wires}}
         self.atomic_ways = {**self.peers, ("acpu", 0): ("corebus", 0), ("acpu", 1): ("corebus", 1)}
         self.parts[CPU_PATHS[config["system"]["model"]]].hart = Hart(entry)
         self.parts["mem"].ram[:len(image)] = image
@@ -1050,6 +1233,38 @@ class Machine:
         """The number of a packet: each has its own."""
         self.drawn += 1
         return self.drawn - 1
+
+    def has_ram_at(self, address):
+        return RAM <= address < RAM + self.ram_size
+
+    def seen(self, address):
+        """The byte that a load would see."""
+        for cache in self.caches:
+            base = address - address % cache.line_size
+            line = cache.line_of(base)
+            data = cache.newest_back(base) if line is None else line.data
+            if data is not None:
+                return data[address - base]
+        for packet in self.write_backs_below():
+            if packet.address <= address < packet.address + packet.size:
+                return packet.data[address - packet.address]
+        return self.parts["mem"].ram[address - RAM]
+
+    def write_backs_below(self):
+        """Those on their way from the lowest cache, the newest first."""
+        held = [layer.packet for layer in self.parts["membus"].layers if layer.packet is not None]
+        return [packet for packet in held + self.parts["mem"].packets[::-1] if packet.command == "WriteBack"]
+
+    def write_back(self):
+        """Writes all dirty lines to memory, those of the lowest cache first."""
+        for cache in reversed(self.caches):
+            for _, line in cache.lines():
+                if line.is_dirty:
+                    self.parts["mem"].ram[line.address - RAM:line.address - RAM + cache.line_size] = line.data
+
+    def forget_lines(self):
+        for cache in self.caches:
+            cache.sets = [[] for _ in cache.sets]
 
     def active(self):
         """The CPU that has the hart."""
@@ -1133,7 +1348,7 @@ def counter_of(entry):
     if entry[0] == "served":
         _, packet, is_ram = entry
         return ("ram" if is_ram else "device") + (".writes" if packet.command == "WriteResp" else ".reads")
-    return entry[1] + ".refused" if entry[0] == "refused" else COUNTED.get(entry[0])
+    return f"{entry[1]}.{NAMED[entry[0]]}" if entry[0] in NAMED else COUNTED.get(entry[0])
 
 
 def trace_line(entry):
@@ -1241,12 +1456,34 @@ def script_drain(result):
 
 def script_switch(result, model):
     fired = drained(result)
+    result.machine.write_back()
+    result.machine.forget_lines()
     result.machine.hand_hart_to(model)
     result.machine.resume()
     result.say([f"switch {model} at {result.machine.now} events {fired}"])
 
 
-LINES = {"run": script_run, "regs": script_regs, "stats": script_stats, "input": script_input, "trace": script_trace, "drain": script_drain,
+def bytes_line(word, address, given):
+    return [f"{word} {address:016x} {bytes(given).hex()}"]
+
+
+def script_dump(result, address, count):
+    first = int(address, 16)
+    result.say(bytes_line("dump", first, [result.machine.seen(first + place) for place in range(int(count))]))
+
+
+def script_raw(result, address, count):
+    first = int(address, 16)
+    result.say(bytes_line("raw", first, result.machine.parts["mem"].ram[first - RAM:first - RAM + int(count)]))
+
+
+def script_lines(result, path):
+    lines = result.machine.parts[path].lines()
+    result.say([f"lines {path} {len(lines)}"])
+    result.say(f"set {number} {line.address:016x} {'dirty' if line.is_dirty else 'clean'} {line.data.hex()}" for number, line in lines)
+
+
+LINES = {"dump": script_dump, "raw": script_raw, "lines": script_lines, "run": script_run, "regs": script_regs, "stats": script_stats, "input": script_input, "trace": script_trace, "drain": script_drain,
          "switch": script_switch}
 
 
@@ -1342,6 +1579,29 @@ csrrw x0, mie, x0
 wfi
 """)
 SLEEPS_AND_EXITS = [0x02004537, 0x0C800293, 0x00000397, 0x0253B423, 0x0283B283, 0x00553023, 0x08000313, 0x30432073, 0x10500073, 0x001005B7, 0x0005A023]
+def cache_section(path, sets, ways, mshrs, targets, writeq, latency):
+    return f"[{path}]\nsets = {sets}\nways = {ways}\nmshrs = {mshrs}\ntargets = {targets}\nwriteq = {writeq}\nlatency = {latency}\n"
+
+
+ONE_CACHE = TIMING + cache_section("cache1", 1, 1, 1, 1, 1, 10)
+TWO_CACHES = ONE_CACHE + cache_section("cache2", 16, 1, 1, 1, 1, 20)
+STORES_IN_A_LINE = [0x00001517, 0x05500293, 0x00550023, 0x00050303]
+ITS_CACHE_STATISTICS = """cache1.hits 2
+cache1.misses 4
+cache1.refused 0
+corebus.refused 0
+cpu.retired 4
+cpu.sleeps 0
+cpu.traps 0
+device.reads 0
+device.writes 0
+mem.refused 1
+membus.refused 0
+ram.reads 5
+ram.writes 1
+sim.events 43
+sim.ticks 7130
+"""
 # What it is, the configuration, the image, the script, the report, and the console.
 KNOWN = [
     ("a byte to the console and an exit, in atomic mode", ATOMIC, STORES_AND_EXIT, "run end\nregs\n",
@@ -1368,6 +1628,13 @@ KNOWN = [
      "run insts at 8200 insts 5 events 5\n@9200 timer 1\nline 7 1\n@9200 uart 1\nrun tick at 9200 insts 0 events 2\n", b"\x5c"),
     ("a sleep that the clock ends, and one that nothing does", ATOMIC, SLEEPS_TWICE, "run end\n", "run idle at 24400 insts 9 events 10\n", b""),
     ("a sleep that the clock ends, and an exit", ATOMIC, SLEEPS_AND_EXITS, "run end\n", "run exit 0 at 22700 insts 11 events 12\n", b""),
+    ("a store that stays in a cache of one line until the next fetch", ONE_CACHE, STORES_IN_A_LINE,
+     "run insts 3\nraw 0x80001000 1\ndump 0x80001000 1\nlines cache1\nrun insts 1\nraw 0x80001000 1\nstats\n",
+     "run insts at 4920 insts 3 events 24\nraw 0000000080001000 00\ndump 0000000080001000 55\nlines cache1 1\n"
+     "set 0 0000000080001000 dirty 55000000000000000000000000000000\nrun insts at 7130 insts 1 events 19\nraw 0000000080001000 55\n"
+     + ITS_CACHE_STATISTICS, b""),
+    ("a fetch through two caches", TWO_CACHES, STORES_AND_EXIT, "run insts 1\nlines cache2\n",
+     "run insts at 1960 insts 1 events 10\nlines cache2 1\nset 0 0000000080000000 clean 370500109302100023005500b7051000\n", b""),
 ]
 
 
