@@ -1,0 +1,4 @@
+//! The rule of a cache on plain lists: what each wake does to its lines, its registers and what it sends.
+//!
+//! Its promise: the definitions in `specs/` are total. Read `specs/State.antt` and then `specs/Rule.antt`.
+#![tactic(auto)]
