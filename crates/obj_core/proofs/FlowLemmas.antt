@@ -1,5 +1,6 @@
 -- The packets that keys stand for, as packets come in and go.
-use Rattle.std.proofs.Common.{◌≡◌, ◌≢◌, ℕ, suc, zero, ◌+◌, ◌≤◌, ◌<◌, ◌==◌, ◌||◌, refl, sym, ◌∙◌, ap, arith, subst, eq-eqb, ne_eqb, Bool, true, false, List, [], ◌∷◌, ◌++◌, ◌-◌, length, take, drop, get_or, ◌⊎◌, inl, inr, Option, Some, None, IsSomeAnd, OnSome}
+use Rattle.std.proofs.Common.{◌≡◌, ◌≢◌, ℕ, suc, zero, ◌+◌, ◌≤◌, ◌<◌, ◌==◌, ◌||◌, refl, sym, ◌∙◌, ap, arith, subst, eq-eqb, ne_eqb, Bool, true, false, List, [], ◌∷◌, ◌++◌, ◌-◌, length, take, drop, get_or, ◌⊎◌, inl, inr, Option, Some, None, IsSomeAnd, OnSome, slice_get}
+use Rattle.std.specs.Option.{option_map}
 use Rattle.std.proofs.lemmas.Bool.{cases_eq}
 use Rattle.std.proofs.lemmas.List.{drop_more}
 use Rattle.gm_words.specs.Allowed.{MayPass}
@@ -65,6 +66,20 @@ first_by ready (Some y) qs h = refl
 
 pub queued_first : (p : Pooled) (x : Place) (xs : List Place) → AreHeld p (x ∷ xs) → packet_at p x.key ≡ head_of (queued p (x ∷ xs))
 queued_first p x xs h = first_by x.ready (packet_at p x.key) (queued p xs) h.0
+
+-- the tick of the packet behind the first
+second_by : (r₁ r₂ : ℕ) (o₁ o₂ : Option Packet) (qs : List Queued) → IsSomeAnd o₁ MayPass → IsSomeAnd o₂ MayPass
+    → option_map (λ (q : Queued). q.ready) (slice_get (queued_by r₁ o₁ (queued_by r₂ o₂ qs)) 1) ≡ Some r₂
+second_by r₁ r₂ None o₂ qs h g = absurd h
+second_by r₁ r₂ (Some y) None qs h g = absurd g
+second_by r₁ r₂ (Some y) (Some z) qs h g = refl
+
+pub queued_second : (p : Pooled) (xs : List Place) (x : Place) → AreHeld p xs → 1 < length xs → x ≡ get_or xs 1 x
+    → Some x.ready ≡ option_map (λ (q : Queued). q.ready) (slice_get (queued p xs) 1)
+queued_second p [] x h n e = absurd (omega (arith, n))
+queued_second p (y ∷ []) x h n e = absurd (omega (arith, n))
+queued_second p (y ∷ z ∷ xs) x h n e =
+    ap (λ (x : Place). Some x.ready) e ∙ sym (second_by y.ready z.ready (packet_at p y.key) (packet_at p z.key) (queued p xs) h.0 h.2.0)
 
 -- A packet comes in.
 

@@ -1,5 +1,6 @@
 // What a part has to send from one port: the packets in order, and how the first of them stands.
-ghost use Rattle.std.specs.Prelude.{◌≡◌, ◌-◌, ◌<◌, ◌≤◌, ◌==◌, [], ◌∷◌, ◌++◌, length, take, drop, nat_lt, IfOk, IfSome, IsTrue, is_some, option_copied};
+ghost use Rattle.std.specs.Prelude.{◌≡◌, ◌-◌, ◌<◌, ◌≤◌, ◌==◌, [], ◌∷◌, ◌++◌, length, take, drop, nat_lt, IfOk, IfSome, IsTrue, is_some, option_copied, slice_get};
+ghost use Rattle.std.specs.Option.{option_map};
 ghost use Rattle.ev_queue.specs.SlotTable.{gave};
 ghost use Rattle.gm_words.specs.Allowed.{MayPass};
 ghost use Rattle.gm_words.specs.Changes.{changed};
@@ -37,7 +38,7 @@ enum Head {
 #[derive(Clone, Copy)]
 struct Place {
     key: usize,
-    ready: u64,
+    ready: Tick,
 }
 
 /// What a part has to send from one port. There is a place for so many packets, and it takes no memory once it is made.
@@ -111,6 +112,16 @@ impl Flow {
         self.pool.get(self.queue.front()?.key)
     }
 
+    /// The tick from which on the packet behind the first may be offered, if there is one.
+    pub fn next_ready(&self) -> Option<Tick>
+        ensures { result ≡ option_map (λ q. q.ready) (slice_get self.now.flow.items 1) }
+    {
+        if self.queue.len() < 2 {
+            return None;
+        }
+        Some(self.queue[1].ready)
+    }
+
     // Packets in and out.
 
     /// Puts a packet at the end, which may be offered from a tick on. If it is the first, its event comes then.
@@ -148,10 +159,7 @@ impl Flow {
         } }
     {
         let key = self.pool.put_reserved(*p);
-        self.queue.push_back_reserved(Place {
-            key,
-            ready: ready.get(),
-        });
+        self.queue.push_back_reserved(Place { key, ready });
     }
 
     /// Drops the first packet. If there is a next one, its event comes at a tick.
@@ -210,12 +218,14 @@ impl Flow {
         requires { MayPass p.now }
         ensures { self.new ≡ record self.old { flow = record { items = with_front p.now 0 self.old.flow.items; out = Waits } } }
     {
-        self.put_first(p, 0);
+        if let Some(start) = Tick::new(0) {
+            self.put_first(p, start);
+        }
         self.head = Head::Waits;
     }
 
     /// Puts a packet, which may be offered from a tick on, in place of the first, if there is one.
-    fn put_first(&mut self, p: &Packet, ready: u64)
+    fn put_first(&mut self, p: &Packet, ready: Tick)
         requires { MayPass p.now }
         ensures { self.new ≡ record self.old { flow = record self.old.flow { items = with_front p.now ready self.old.flow.items } } }
     {

@@ -37,4 +37,4 @@ pub returns : goal.returns
 returns c =
     let o = c.self.inside in
     let put = c.put_reserved-key.ensures in
-    rw (← c.self.view_is) (rw c.push_back_reserved.ensures.items (rw c.get.ensures.value (ap (λ (qs : List Queued). record { flow = record { items = qs; out = out_of o.head }; places = o.places }) (put_queued o.pool _ o.queue.items _ _ _ put.packet put.vacant c.self.invariant.held))))
+    rw (← c.self.view_is) (rw c.push_back_reserved.ensures.items (ap (λ (qs : List Queued). record { flow = record { items = qs; out = out_of o.head }; places = o.places }) (put_queued o.pool _ o.queue.items _ _ _ put.packet put.vacant c.self.invariant.held)))
