@@ -1,8 +1,8 @@
 // What a server notes of a request.
-ghost use Rattle.std.specs.Prelude.{◌≡◌, ◌≤◌, ◌++◌, [], take, drop, replicate};
+ghost use Rattle.std.specs.Prelude.{◌≡◌, ◌<◌, ◌≤◌, ◌++◌, [], length, take, drop, replicate};
 ghost use Rattle.pkt_pool.specs.Packet.{carried_bytes, is_write};
 ghost use Rattle.gm_words.specs.Entries.{served_entries, entry_bytes};
-ghost use Rattle.obj_core.specs.Out.{HasRoom, extended};
+ghost use Rattle.obj_core.specs.Out.{extended};
 ghost use Rattle.obj_server.specs.ServedBy.{is_device};
 
 use crate::served_by::ServedBy;
@@ -56,7 +56,7 @@ fn writes(cmd: Cmd) -> bool
 #[inline(always)]
 pub(crate) fn note(cmd: Cmd, response: &Packet, by: ServedBy, out: &mut Outbox)
     requires size { response.now.size ≤ 64 }
-    requires room { HasRoom out.old }
+    requires room { length out.old.entries < 528 }
     ensures { out.new ≡ extended out.old []
         (served_entries (record response.now { cmd = cmd }) response.now (is_device by)) out.old.next }
 {
