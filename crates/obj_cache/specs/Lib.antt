@@ -1,0 +1,5 @@
+pub mod Held
+pub mod Sets
+pub mod Leaving
+pub mod Shown
+pub mod Step
