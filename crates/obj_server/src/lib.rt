@@ -15,7 +15,7 @@ mod served_by;
 mod server;
 
 pub use device::{DEVICE_PLACES, Device, Start};
-pub use note::note;
+pub use note::note_served;
 pub use own_event::OwnEvent;
 pub use reply::{answer_read, answer_write, refuse};
 pub use served::Served;

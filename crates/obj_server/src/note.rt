@@ -54,7 +54,7 @@ fn writes(cmd: Cmd) -> bool
 
 /// Notes that a request with this command got this response, and who served it.
 #[inline(always)]
-pub fn note(cmd: Cmd, response: &Packet, by: ServedBy, out: &mut Outbox)
+pub fn note_served(cmd: Cmd, response: &Packet, by: ServedBy, out: &mut Outbox)
     requires size { response.now.size ≤ 64 }
     requires room { length out.old.entries < 528 }
     ensures { out.new ≡ extended out.old []

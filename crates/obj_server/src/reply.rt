@@ -5,7 +5,7 @@ ghost use Rattle.gm_words.specs.Entries.{served_entries};
 ghost use Rattle.obj_core.specs.Out.{extended};
 ghost use Rattle.obj_server.specs.ServedBy.{is_device};
 
-use crate::note::note;
+use crate::note::note_served;
 use crate::served_by::ServedBy;
 use gm_model::{Cmd, Packet};
 use obj_core::Outbox;
@@ -21,7 +21,7 @@ pub fn answer_read(p: &mut Packet, bytes: &[u8], by: ServedBy, out: &mut Outbox)
 {
     let cmd = p.cmd;
     p.answer(bytes);
-    note(cmd, p, by, out);
+    note_served(cmd, p, by, out);
 }
 
 /// Answers a write, and notes who served it.
@@ -34,7 +34,7 @@ pub fn answer_write(p: &mut Packet, by: ServedBy, out: &mut Outbox)
 {
     let cmd = p.cmd;
     p.cmd = Cmd::WriteResp;
-    note(cmd, p, by, out);
+    note_served(cmd, p, by, out);
 }
 
 /// Refuses a request by fault, as a device does, and notes it.
@@ -46,5 +46,5 @@ pub fn refuse(p: &mut Packet, out: &mut Outbox)
 {
     let cmd = p.cmd;
     p.refuse();
-    note(cmd, p, ServedBy::Device, out);
+    note_served(cmd, p, ServedBy::Device, out);
 }
