@@ -63,7 +63,10 @@ pub struct Cache {
     ghost held: { registers.line ≡ line },
     ghost above: { answers.places ≡ 512 },
     ghost below: { leaving.places ≡ 512 },
-    ghost slots: { (response.owner ≡ object.0) × (response.slot ≡ 0) × (request.owner ≡ object.0) × (request.slot ≡ 1) },
+    ghost responses: { response.owner ≡ object.0 },
+    ghost first: { response.slot ≡ 0 },
+    ghost requests: { request.owner ≡ object.0 },
+    ghost second: { request.slot ≡ 1 },
 }
 
 impl Cache {

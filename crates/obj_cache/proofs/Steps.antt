@@ -1,0 +1,153 @@
+-- Steps of a wake, one after another.
+use Rattle.std.proofs.Common.{◌≡◌, ℕ, zero, suc, ◌+◌, Bool, true, false, List, [], ◌∷◌, ◌++◌, refl, sym, ◌∙◌, ap, subst, Option, Some, None}
+use Rattle.std.proofs.lemmas.List.{append_assoc, append-nil, map-append}
+use Rattle.ev_queue.specs.Queue.{Queue}
+use Rattle.ev_queue.specs.declared.due.Due.{Due}
+use Rattle.gm_cache.specs.State.{CacheState, answers_outlet, leaving_outlet}
+use Rattle.gm_cache.specs.Rule.{CacheMoved, above_moved, below_moved, sending_above, sending_below, noting}
+use Rattle.gm_model.specs.Flows.{Moved, put_in}
+use Rattle.gm_model.specs.Deliver.{Item, Sent, sent_by}
+use Rattle.gm_words.specs.Flow.{Flow, Queued, OutState}
+use Rattle.gm_words.specs.Changes.{Change, Schedule, Remove, changed_by, changed}
+use Rattle.gm_words.specs.declared.act.Act.{Act}
+use Rattle.gm_words.specs.declared.entry.Entry.{Entry}
+use Rattle.obj_core.specs.Kept.{outlet_of}
+use Rattle.obj_core.specs.Out.{Out, extended}
+use Rattle.obj_core.proofs.StepLemmas.{put_acts}
+use Rattle.pkt_pool.specs.declared.packet.Packet.{Packet}
+use Rattle.obj_cache.specs.Step.{Stands, Goes}
+
+-- Changes and outboxes.
+
+pub changed-append : (i : ℕ) (es : List Due) (cs ds : List Change) → changed i (changed i es cs) ds ≡ changed i es (cs ++ ds)
+changed-append i es [] ds = refl
+changed-append i es (Schedule slot class at ∷ cs) ds = changed-append i (changed_by i es (Schedule slot class at)) cs ds
+changed-append i es (Remove slot ∷ cs) ds = changed-append i (changed_by i es (Remove slot)) cs ds
+
+pub extended-extended : (o : Out) (a b : List Act) (e f : List Entry) (n m : ℕ) → extended (extended o a e n) b f m ≡ extended o (a ++ b) (e ++ f) m
+extended-extended o a b e f n m =
+    ap (λ (is : List Item). let p : Out = record { sender = o.sender; items = is; entries = (o.entries ++ e) ++ f; next = m } in p)
+    (append_assoc o.items (sent_by o.sender a) (sent_by o.sender b) ∙ ap (λ (is : List Item). o.items ++ is) (sym (map-append (Sent o.sender) a b)))
+    ∙ ap (λ (es : List Entry). let p : Out = record { sender = o.sender; items = o.items ++ sent_by o.sender (a ++ b); entries = es; next = m } in p)
+    (append_assoc o.entries e f)
+
+-- what was extended, and then again by what a step asks for, notes and draws
+pub more_out : (o o₁ o₂ : Out) (a b : List Act) (e f : List Entry) (n m : ℕ) → o₁ ≡ extended o a e n → o₂ ≡ extended o₁ b f m → o₂ ≡ extended o (a ++ b) (e ++ f) m
+more_out o o₁ o₂ a b e f n m h k = k ∙ ap (λ p. extended p b f m) h ∙ extended-extended o a b e f n m
+
+-- the same of a step that notes nothing
+pub more_acts : (o o₁ o₂ : Out) (a b : List Act) (e : List Entry) (n : ℕ) → o₁ ≡ extended o a e n → o₂ ≡ extended o₁ b [] o₁.next → o₂ ≡ extended o (a ++ b) e n
+more_acts o o₁ o₂ a b e n h k =
+    more_out o o₁ o₂ a b e [] n o₁.next h k ∙ ap (λ es. extended o (a ++ b) es o₁.next) (append-nil e) ∙ ap (λ k. extended o (a ++ b) e k) (ap (λ (p : Out). p.next) h)
+
+-- One step after another.
+
+pub then : (f g : CacheMoved → CacheMoved) (s s₁ s₂ : CacheState) (q q₁ q₂ : Queue) (o o₁ o₂ : Out)
+    → Goes f s s₁ q q₁ o o₁ → Goes g s₁ s₂ q₁ q₂ o₁ o₂ → Goes (λ m. g (f m)) s s₂ q q₂ o o₂
+then f g s s₁ s₂ q q₁ q₂ o o₁ o₂ a b = λ m q₀ o₀ h. b (f m) q₀ o₀ (a m q₀ o₀ h)
+
+-- a step that goes by the cache as it is
+pub goes_by : (f : CacheState → CacheMoved → CacheMoved) (s s' : CacheState) (q q' : Queue) (o o' : Out)
+    → Goes (f s) s s' q q' o o' → Goes (λ m. f m.cache m) s s' q q' o o'
+goes_by f s s' q q' o o' a = λ m q₀ o₀ h. subst (λ (c : CacheState). Stands (f c m) q₀ o₀ s' q' o') h.state (a m q₀ o₀ h)
+
+-- the queue after changes, and then after others
+more_events : (i : ℕ) (q q₁ q₂ : Queue) (cs ds : List Change) → q₁ ≡ (let r : Queue = record q { pending = changed i q.pending cs } in r)
+    → q₂ ≡ (let r : Queue = record q₁ { pending = changed i q₁.pending ds } in r) → q₂ ≡ (let r : Queue = record q { pending = changed i q.pending (cs ++ ds) } in r)
+more_events i q q₁ q₂ cs ds h k =
+    k ∙ ap (λ (p : Queue). let r : Queue = record p { pending = changed i p.pending ds } in r) h
+    ∙ ap (λ (es : List Due). let r : Queue = record q { pending = es } in r) (changed-append i q.pending cs ds)
+
+-- a step of the answers
+pub above_goes : (f : CacheState → Moved) (s s' : CacheState) (q q' : Queue) (o o' : Out)
+    → s' ≡ (let t : CacheState = record s { answers = (f s).flow } in t)
+    → q' ≡ (let r : Queue = record q { pending = changed s.common.object q.pending (f s).changes } in r)
+    → o' ≡ extended o (f s).acts [] o.next
+    → Goes (λ m. above_moved (f m.cache) m) s s' q q' o o'
+above_goes f s s' q q' o o' es eq eo = λ m q₀ o₀ h. record {
+  state = es ∙ ap (λ (c : CacheState). let t : CacheState = record c { answers = (f c).flow } in t) h.state;
+  events = more_events m.cache.common.object q₀ q q' m.changes (f m.cache).changes h.events
+      (subst (λ (c : CacheState). q' ≡ (let r : Queue = record q { pending = changed c.common.object q.pending (f c).changes } in r)) h.state eq);
+  out = more_acts o₀ o o' m.acts (f m.cache).acts m.entries m.next h.out (subst (λ (c : CacheState). o' ≡ extended o (f c).acts [] o.next) h.state eo);
+}
+
+-- a step of what leaves
+pub below_goes : (f : CacheState → Moved) (s s' : CacheState) (q q' : Queue) (o o' : Out)
+    → s' ≡ (let t : CacheState = record s { leaving = (f s).flow } in t)
+    → q' ≡ (let r : Queue = record q { pending = changed s.common.object q.pending (f s).changes } in r)
+    → o' ≡ extended o (f s).acts [] o.next
+    → Goes (λ m. below_moved (f m.cache) m) s s' q q' o o'
+below_goes f s s' q q' o o' es eq eo = λ m q₀ o₀ h. record {
+  state = es ∙ ap (λ (c : CacheState). let t : CacheState = record c { leaving = (f c).flow } in t) h.state;
+  events = more_events m.cache.common.object q₀ q q' m.changes (f m.cache).changes h.events
+      (subst (λ (c : CacheState). q' ≡ (let r : Queue = record q { pending = changed c.common.object q.pending (f c).changes } in r)) h.state eq);
+  out = more_acts o₀ o o' m.acts (f m.cache).acts m.entries m.next h.out (subst (λ (c : CacheState). o' ≡ extended o (f c).acts [] o.next) h.state eo);
+}
+
+-- a step that changes the cache alone
+pub state_goes : (f : CacheState → CacheState) (s : CacheState) (q : Queue) (o : Out) → ((c : CacheState) → (f c).common.object ≡ c.common.object)
+    → Goes (λ m. let t : CacheMoved = record m { cache = f m.cache } in t) s (f s) q q o o
+state_goes f s q o e = λ m q₀ o₀ h. record {
+  state = ap f h.state;
+  events = h.events ∙ ap (λ i. let r : Queue = record q₀ { pending = changed i q₀.pending m.changes } in r) (sym (e m.cache));
+  out = h.out;
+}
+
+-- a step that notes
+pub notes_goes : (es : List Entry) (s : CacheState) (q : Queue) (o o' : Out) → o' ≡ extended o [] es o.next → Goes (noting es) s s q q o o'
+notes_goes es s q o o' eo = λ m q₀ o₀ h. record {
+  state = h.state;
+  events = h.events;
+  out = more_out o₀ o o' m.acts [] m.entries es m.next o.next h.out eo
+      ∙ ap (λ l. extended o₀ l (m.entries ++ es) o.next) (append-nil m.acts)
+      ∙ ap (λ n. extended o₀ m.acts (m.entries ++ es) n) (ap (λ (p : Out). p.next) h.out);
+}
+
+-- Packets come into the queues.
+
+-- a step that asks for nothing leaves the outbox as it is
+same_out : (o : Out) (a : List Act) → a ≡ [] → o ≡ extended o a [] o.next
+same_out o a e =
+    sym (ap (λ (l : List Act). extended o l [] o.next) e
+    ∙ ap (λ (is : List Item). let p : Out = record { sender = o.sender; items = is; entries = o.entries ++ []; next = o.next } in p) (append-nil o.items)
+    ∙ ap (λ (es : List Entry). let p : Out = record { sender = o.sender; items = o.items; entries = es; next = o.next } in p) (append-nil o.entries))
+
+-- at which port it is offered doesn't matter yet
+any_port : (p slot class : ℕ) (x : Packet) (at : ℕ) (items : List Queued) (out : OutState)
+    → put_in (record { port = p; slot = slot; class = class }) x at items out ≡ put_in (outlet_of slot class) x at items out
+any_port p slot class x at [] out = refl
+any_port p slot class x at (y ∷ ys) out = refl
+
+-- what comes in, by the slot and the tick
+same_flow : (class slot slot' at at' : ℕ) (x : Packet) (items : List Queued) (out : OutState) → slot ≡ slot' → at ≡ at'
+    → (put_in (outlet_of slot class) x at items out) ≡ put_in (outlet_of slot' class) x at' items out
+same_flow class slot slot' at at' x items out e k =
+    ap (λ n. put_in (outlet_of n class) x at items out) e ∙ ap (λ n. put_in (outlet_of slot' class) x n items out) k
+
+with_changes : (q q' : Queue) (i j : ℕ) (m n : Moved) → i ≡ j → m ≡ n → q' ≡ (let r : Queue = record q { pending = changed i q.pending m.changes } in r)
+    → q' ≡ (let r : Queue = record q { pending = changed j q.pending n.changes } in r)
+with_changes q q' i j m n e k h =
+    h ∙ ap (λ a. let r : Queue = record q { pending = changed a q.pending m.changes } in r) e
+    ∙ ap (λ (a : Moved). let r : Queue = record q { pending = changed j q.pending a.changes } in r) k
+
+pub sends_above : (s : CacheState) (x : Packet) (now : ℕ) (q : Queue) (o : Out) (owner slot at : ℕ) (f : Flow) (q' : Queue) → owner ≡ s.common.object → slot ≡ 0
+    → at ≡ now + s.latency → f ≡ (put_in (outlet_of slot 0) x at s.answers.items s.answers.out).flow
+    → q' ≡ (let r : Queue = record q { pending = changed owner q.pending (put_in (outlet_of slot 0) x at s.answers.items s.answers.out).changes } in r)
+    → Goes (sending_above x now) s (record s { answers = f }) q q' o o
+sends_above s x now q o owner slot at f q' e k l ef eq =
+    let same = same_flow 0 slot 0 at (now + s.latency) x s.answers.items s.answers.out k l in
+    above_goes (λ c. put_in answers_outlet x (now + c.latency) c.answers.items c.answers.out) s _ q q' o o
+    (ap (λ (g : Flow). let t : CacheState = record s { answers = g } in t) (ef ∙ ap (λ (m : Moved). m.flow) same))
+    (with_changes q q' owner s.common.object _ _ e same eq)
+    (same_out o _ (put_acts answers_outlet x (now + s.latency) s.answers.items s.answers.out))
+
+pub sends_below : (s : CacheState) (x : Packet) (now : ℕ) (q : Queue) (o : Out) (owner slot at : ℕ) (f : Flow) (q' : Queue) → owner ≡ s.common.object → slot ≡ 1
+    → at ≡ now + s.latency → f ≡ (put_in (outlet_of slot 10) x at s.leaving.items s.leaving.out).flow
+    → q' ≡ (let r : Queue = record q { pending = changed owner q.pending (put_in (outlet_of slot 10) x at s.leaving.items s.leaving.out).changes } in r)
+    → Goes (sending_below x now) s (record s { leaving = f }) q q' o o
+sends_below s x now q o owner slot at f q' e k l ef eq =
+    let same = same_flow 10 slot 1 at (now + s.latency) x s.leaving.items s.leaving.out k l ∙ sym (any_port 1 1 10 x (now + s.latency) s.leaving.items s.leaving.out) in
+    below_goes (λ c. put_in leaving_outlet x (now + c.latency) c.leaving.items c.leaving.out) s _ q q' o o
+    (ap (λ (g : Flow). let t : CacheState = record s { leaving = g } in t) (ef ∙ ap (λ (m : Moved). m.flow) same))
+    (with_changes q q' owner s.common.object _ _ e same eq)
+    (same_out o _ (put_acts leaving_outlet x (now + s.latency) s.leaving.items s.leaving.out))
