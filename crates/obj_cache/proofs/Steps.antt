@@ -1,11 +1,15 @@
 -- Steps of a wake, one after another.
-use Rattle.std.proofs.Common.{◌≡◌, ℕ, zero, suc, ◌+◌, Bool, true, false, List, [], ◌∷◌, ◌++◌, refl, sym, ◌∙◌, ap, subst, Option, Some, None}
-use Rattle.std.proofs.lemmas.List.{append_assoc, append-nil, map-append}
+use Rattle.std.proofs.Common.{◌≡◌, ℕ, zero, suc, ◌+◌, Bool, true, false, List, [], ◌∷◌, ◌++◌, refl, sym, ◌∙◌, ap, arith, subst, Option, Some, None, unwrap_or, slice_get, length, replicate}
+use Rattle.std.specs.Option.{option_map}
+use Rattle.std.proofs.lemmas.List.{append_assoc, append-nil, map-append, drop-replicate}
 use Rattle.ev_queue.specs.Queue.{Queue}
 use Rattle.ev_queue.specs.declared.due.Due.{Due}
+use Rattle.cache_tags.specs.Line.{padded}
+use Rattle.pkt_pool.specs.Packet.{with_front}
+use Rattle.pkt_pool.specs.declared.cmd.Cmd.{Cmd}
 use Rattle.gm_cache.specs.State.{CacheState, answers_outlet, leaving_outlet}
-use Rattle.gm_cache.specs.Rule.{CacheMoved, above_moved, below_moved, sending_above, sending_below, noting}
-use Rattle.gm_model.specs.Flows.{Moved, put_in}
+use Rattle.gm_cache.specs.Rule.{CacheMoved, above_moved, below_moved, sending_above, sending_below, requesting, line_request, sent_in, next_ready, later, noting}
+use Rattle.gm_model.specs.Flows.{Moved, put_in, gone_in}
 use Rattle.gm_model.specs.Deliver.{Item, Sent, sent_by}
 use Rattle.gm_words.specs.Flow.{Flow, Queued, OutState}
 use Rattle.gm_words.specs.Changes.{Change, Schedule, Remove, changed_by, changed}
@@ -13,7 +17,7 @@ use Rattle.gm_words.specs.declared.act.Act.{Act}
 use Rattle.gm_words.specs.declared.entry.Entry.{Entry}
 use Rattle.obj_core.specs.Kept.{outlet_of}
 use Rattle.obj_core.specs.Out.{Out, extended}
-use Rattle.obj_core.proofs.StepLemmas.{put_acts}
+use Rattle.obj_core.proofs.StepLemmas.{put_acts, gone_acts}
 use Rattle.pkt_pool.specs.declared.packet.Packet.{Packet}
 use Rattle.obj_cache.specs.Step.{Stands, Goes}
 
@@ -42,9 +46,9 @@ more_acts o o₁ o₂ a b e n h k =
 
 -- One step after another.
 
-pub then : (f g : CacheMoved → CacheMoved) (s s₁ s₂ : CacheState) (q q₁ q₂ : Queue) (o o₁ o₂ : Out)
+pub followed : (f g : CacheMoved → CacheMoved) (s s₁ s₂ : CacheState) (q q₁ q₂ : Queue) (o o₁ o₂ : Out)
     → Goes f s s₁ q q₁ o o₁ → Goes g s₁ s₂ q₁ q₂ o₁ o₂ → Goes (λ m. g (f m)) s s₂ q q₂ o o₂
-then f g s s₁ s₂ q q₁ q₂ o o₁ o₂ a b = λ m q₀ o₀ h. b (f m) q₀ o₀ (a m q₀ o₀ h)
+followed f g s s₁ s₂ q q₁ q₂ o o₁ o₂ a b = λ m q₀ o₀ h. b (f m) q₀ o₀ (a m q₀ o₀ h)
 
 -- a step that goes by the cache as it is
 pub goes_by : (f : CacheState → CacheMoved → CacheMoved) (s s' : CacheState) (q q' : Queue) (o o' : Out)
@@ -151,3 +155,70 @@ sends_below s x now q o owner slot at f q' e k l ef eq =
     (ap (λ (g : Flow). let t : CacheState = record s { leaving = g } in t) (ef ∙ ap (λ (m : Moved). m.flow) same))
     (with_changes q q' owner s.common.object _ _ e same eq)
     (same_out o _ (put_acts leaving_outlet x (now + s.latency) s.leaving.items s.leaving.out))
+
+-- The first packet of a queue is gone.
+
+next_tick : (items : List Queued) → unwrap_or (option_map (λ (q : Queued). q.ready) (slice_get items 1)) 0 ≡ next_ready items
+next_tick [] = refl
+next_tick (x ∷ []) = refl
+next_tick (x ∷ y ∷ ys) = refl
+
+gone_any_port : (p slot class at : ℕ) (items : List Queued)
+    → gone_in (record { port = p; slot = slot; class = class }) at items ≡ gone_in (outlet_of slot class) at items
+gone_any_port p slot class at [] = refl
+gone_any_port p slot class at (x ∷ []) = refl
+gone_any_port p slot class at (x ∷ y ∷ ys) = refl
+
+-- what is gone, by the slot and the tick
+same_gone : (class slot slot' now at : ℕ) (items : List Queued) (next : Option ℕ) → slot ≡ slot' → next ≡ option_map (λ (q : Queued). q.ready) (slice_get items 1)
+    → at ≡ later now (unwrap_or next 0) → gone_in (outlet_of slot class) at items ≡ gone_in (outlet_of slot' class) (later now (next_ready items)) items
+same_gone class slot slot' now at items next e k l =
+    ap (λ n. gone_in (outlet_of n class) at items) e
+    ∙ ap (λ n. gone_in (outlet_of slot' class) n items) (l ∙ ap (λ (n : Option ℕ). later now (unwrap_or n 0)) k ∙ ap (λ n. later now n) (next_tick items))
+
+pub sent_above : (s : CacheState) (now : ℕ) (q : Queue) (o : Out) (owner slot at : ℕ) (next : Option ℕ) (f : Flow) (q' : Queue) → owner ≡ s.common.object → slot ≡ 0
+    → next ≡ option_map (λ (q : Queued). q.ready) (slice_get s.answers.items 1) → at ≡ later now (unwrap_or next 0)
+    → f ≡ (gone_in (outlet_of slot 0) at s.answers.items).flow
+    → q' ≡ (let r : Queue = record q { pending = changed owner q.pending (gone_in (outlet_of slot 0) at s.answers.items).changes } in r)
+    → (p : ℕ) → p ≡ 0 → Goes (sent_in p now) s (record s { answers = f }) q q' o o
+sent_above s now q o owner slot at next f q' e k n l ef eq (suc p) h = absurd (omega (arith, h))
+sent_above s now q o owner slot at next f q' e k n l ef eq zero h =
+    let same = same_gone 0 slot 0 now at s.answers.items next k n l in
+    above_goes (λ c. gone_in answers_outlet (later now (next_ready c.answers.items)) c.answers.items) s _ q q' o o
+    (ap (λ (g : Flow). let t : CacheState = record s { answers = g } in t) (ef ∙ ap (λ (m : Moved). m.flow) same))
+    (with_changes q q' owner s.common.object _ _ e same eq)
+    (same_out o _ (gone_acts answers_outlet (later now (next_ready s.answers.items)) s.answers.items))
+
+pub sent_below : (s : CacheState) (now : ℕ) (q : Queue) (o : Out) (owner slot at : ℕ) (next : Option ℕ) (f : Flow) (q' : Queue) → owner ≡ s.common.object → slot ≡ 1
+    → next ≡ option_map (λ (q : Queued). q.ready) (slice_get s.leaving.items 1) → at ≡ later now (unwrap_or next 0)
+    → f ≡ (gone_in (outlet_of slot 10) at s.leaving.items).flow
+    → q' ≡ (let r : Queue = record q { pending = changed owner q.pending (gone_in (outlet_of slot 10) at s.leaving.items).changes } in r)
+    → (p : ℕ) → (p ≡ 0 → ⊥) → Goes (sent_in p now) s (record s { leaving = f }) q q' o o
+sent_below s now q o owner slot at next f q' e k n l ef eq zero h = absurd (h refl)
+sent_below s now q o owner slot at next f q' e k n l ef eq (suc p) h =
+    let same = same_gone 10 slot 1 now at s.leaving.items next k n l ∙ sym (gone_any_port 1 1 10 (later now (next_ready s.leaving.items)) s.leaving.items) in
+    below_goes (λ c. gone_in leaving_outlet (later now (next_ready c.leaving.items)) c.leaving.items) s _ q q' o o
+    (ap (λ (g : Flow). let t : CacheState = record s { leaving = g } in t) (ef ∙ ap (λ (m : Moved). m.flow) same))
+    (with_changes q q' owner s.common.object _ _ e same eq)
+    (same_out o _ (gone_acts leaving_outlet (later now (next_ready s.leaving.items)) s.leaving.items))
+
+-- Requests of the cache's own.
+
+-- a request is made with the next number, and leaves
+pub requests_goes : (cmd : Cmd) (a : ℕ) (bytes : List ℕ) (x : Packet) (now : ℕ) (s s' : CacheState) (q q' : Queue) (o o' : Out)
+    → x ≡ line_request s o.next cmd a bytes → o' ≡ (let p : Out = record o { next = o.next + 1 } in p)
+    → Goes (sending_below x now) s s' q q' o o → Goes (requesting cmd a bytes now) s s' q q' o o'
+requests_goes cmd a bytes x now s s' q q' o o' e k h = λ m q₀ o₀ st.
+    let same : x ≡ line_request m.cache m.next cmd a bytes =
+        e ∙ ap (λ n. line_request s n cmd a bytes) (ap (λ (p : Out). p.next) st.out) ∙ ap (λ (c : CacheState). line_request c m.next cmd a bytes) st.state in
+    let t : Stands (sending_below (line_request m.cache m.next cmd a bytes) now m) q₀ o₀ s' q' o =
+        subst (λ (y : Packet). Stands (sending_below y now m) q₀ o₀ s' q' o) same (h m q₀ o₀ st) in
+    record {
+      state = t.state;
+      events = t.events;
+      out = k ∙ ap (λ (p : Out). let r : Out = record p { next = p.next + 1 } in r) t.out;
+    }
+
+-- a line's bytes in front of a packet's, which are zeros
+pub padded_front : (bytes : List ℕ) → padded bytes ≡ with_front (replicate 64 0) bytes
+padded_front bytes = ap (λ (l : List ℕ). bytes ++ l) (sym (drop-replicate (length bytes) 64 0))

@@ -1,5 +1,5 @@
 -- The state that a cache shows. This project's own rule.
-use Rattle.std.specs.Prelude.{ℕ, length}
+use Rattle.std.specs.Prelude.{◌≡◌, ℕ, length}
 use Rattle.gm_cache.specs.State.{CacheState}
 use Rattle.obj_cache.specs.declared.cache.Cache.{Cache}
 
@@ -13,7 +13,7 @@ most_held = 500
 
 abbrev pub shown : Cache → CacheState
 shown c = record {
-  common = record { object = c.object.0; line = c.line; ram = c.ram; timing = c.timing; draining = c.draining };
+  common = record { object = c.object.0; line = c.lines.line; ram = c.ram; timing = c.timing; draining = c.draining };
   source = c.source;
   sets = length c.lines.lines;
   ways = c.lines.ways;
@@ -27,3 +27,8 @@ shown c = record {
   leaving = c.leaving.flow;
   waiter = c.waiter;
 }
+
+-- its number and the size of its lines stay
+pub record StaysAs (old new : Cache) : Type 0 where
+  pub object : new.object.0 ≡ old.object.0
+  pub line : new.lines.line ≡ old.lines.line

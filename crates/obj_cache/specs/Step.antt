@@ -17,7 +17,7 @@ pub record HasBoth (table : List Slot) (object : ℕ) : Type 0 where
 -- in the middle of a wake: the cache, the queue of events and the outbox, which were q and o before it, are as the rule has them
 pub record Stands (m : CacheMoved) (q : Queue) (o : Out) (s : CacheState) (q' : Queue) (o' : Out) : Type 0 where
   pub state : s ≡ m.cache
-  pub events : q' ≡ record q { pending = changed s.common.object q.pending m.changes }
+  pub events : q' ≡ record q { pending = changed m.cache.common.object q.pending m.changes }
   pub out : o' ≡ extended o m.acts m.entries m.next
 
 -- a call takes a step of the rule, wherever in a wake it is made

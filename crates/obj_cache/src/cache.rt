@@ -60,7 +60,7 @@ pub struct Cache {
     ghost short: { latency ≤ LATENCY_MAX },
     ghost sizes: { IsTrue ((line == 16) || (line == 32) || (line == 64)) },
     ghost whole: { lines.line ≡ line },
-    ghost held: { registers.line ≡ line },
+    ghost held: { registers.line ≡ lines.line },
     ghost above: { answers.places ≡ 512 },
     ghost below: { leaving.places ≡ 512 },
     ghost responses: { response.owner ≡ object.0 },
@@ -70,7 +70,7 @@ pub struct Cache {
 }
 
 impl Cache {
-    ghost use Rattle.obj_cache.specs.Shown.{shown, most_held};
+    ghost use Rattle.obj_cache.specs.Shown.{shown, most_held, StaysAs};
 
     // Queues.
 
@@ -93,6 +93,11 @@ impl Cache {
         requires handles { HasBoth q.old.table self.old.object.0 }
         ensures step { (o : Out) → Goes (sending_above p.now now) (shown self.old) (shown self.new) q.old q.new o o }
         ensures handles { q.new.table ≡ q.old.table }
+        ensures stays { StaysAs self.old self.new }
+        ensures lines { self.new.lines ≡ self.old.lines }
+        ensures registers { self.new.registers ≡ self.old.registers }
+        ensures leaving { self.new.leaving ≡ self.old.leaving }
+        ensures few { length self.new.answers.flow.items ≤ length self.old.answers.flow.items + 1 }
     {
         let at = self.ready_at(now);
         self.answers.put(p, at, &self.response, q);
@@ -106,6 +111,10 @@ impl Cache {
         requires handles { HasBoth q.old.table self.old.object.0 }
         ensures step { (o : Out) → Goes (sending_below p.now now) (shown self.old) (shown self.new) q.old q.new o o }
         ensures handles { q.new.table ≡ q.old.table }
+        ensures stays { StaysAs self.old self.new }
+        ensures lines { self.new.lines ≡ self.old.lines }
+        ensures registers { self.new.registers ≡ self.old.registers }
+        ensures answers { self.new.answers ≡ self.old.answers }
     {
         let at = self.ready_at(now);
         self.leaving.put(p, at, &self.request, q);
@@ -120,6 +129,12 @@ impl Cache {
         ensures step { (front : List ℕ) → padded front ≡ bytes.now
             → Goes (requesting cmd addr front now) (shown self.old) (shown self.new) q.old q.new out.old out.new }
         ensures handles { q.new.table ≡ q.old.table }
+        ensures stays { StaysAs self.old self.new }
+        ensures lines { self.new.lines ≡ self.old.lines }
+        ensures registers { self.new.registers ≡ self.old.registers }
+        ensures answers { self.new.answers ≡ self.old.answers }
+        ensures items { length out.new.items ≡ length out.old.items }
+        ensures entries { length out.new.entries ≡ length out.old.entries }
     {
         let p = Packet {
             id: out.fresh(),
@@ -140,8 +155,8 @@ impl Cache {
 
     /// A line comes, and the one that leaves for it is written back if it is dirty.
     fn install(&mut self, addr: u64, p: &Packet, dirty: bool, now: Tick, q: &mut EventQueue, out: &mut Outbox)
-        requires aligned { addr % self.old.line ≡ 0 }
-        requires whole { length (carried_bytes p.now) ≡ self.old.line }
+        requires aligned { addr % self.old.lines.line ≡ 0 }
+        requires whole { length (carried_bytes p.now) ≡ self.old.lines.line }
         requires size { MayPass p.now }
         requires absent { line_in (shown self.old) addr ≡ None }
         requires tick { now ≤ TOP }
@@ -150,6 +165,11 @@ impl Cache {
         requires handles { HasBoth q.old.table self.old.object.0 }
         ensures step { Goes (installing (new_line addr dirty (carried_bytes p.now)) now) (shown self.old) (shown self.new) q.old q.new out.old out.new }
         ensures handles { q.new.table ≡ q.old.table }
+        ensures stays { StaysAs self.old self.new }
+        ensures registers { self.new.registers ≡ self.old.registers }
+        ensures answers { self.new.answers ≡ self.old.answers }
+        ensures items { length out.new.items ≡ length out.old.items }
+        ensures entries { length out.new.entries ≡ length out.old.entries }
     {
         if let Some(victim) = self.lines.install(addr, &p.bytes[..p.size as usize], dirty) {
             if victim.dirty {
@@ -160,7 +180,7 @@ impl Cache {
 
     /// The line at an address serves a request, if it is there; false if it isn't.
     fn serve(&mut self, addr: u64, p: &Packet, now: Tick, q: &mut EventQueue, out: &mut Outbox) -> bool
-        requires target { IsTarget self.old.line addr p.now }
+        requires target { IsTarget self.old.lines.line addr p.now }
         requires tick { now ≤ TOP }
         requires room { length self.old.answers.flow.items < 512 }
         requires entries { length out.old.entries < 528 }
@@ -168,6 +188,13 @@ impl Cache {
         ensures served { result ≡ is_some (line_in (shown self.old) addr) }
         ensures step { Goes (serving addr p.now now) (shown self.old) (shown self.new) q.old q.new out.old out.new }
         ensures handles { q.new.table ≡ q.old.table }
+        ensures stays { StaysAs self.old self.new }
+        ensures registers { self.new.registers ≡ self.old.registers }
+        ensures leaving { self.new.leaving ≡ self.old.leaving }
+        ensures few { length self.new.answers.flow.items ≤ length self.old.answers.flow.items + 1 }
+        ensures items { length out.new.items ≡ length out.old.items }
+        ensures entries { length out.new.entries ≤ length out.old.entries + 1 }
+        ensures number { out.new.next ≡ out.old.next }
     {
         let mut response = *p;
         if !self.lines.serve(addr, &mut response) {
@@ -191,6 +218,9 @@ impl Cache {
             (shown self.old) (shown self.new) q.old q.new out.old out.new }
         ensures none { targets_of addr self.new.registers.used ≡ [] }
         ensures handles { q.new.table ≡ q.old.table }
+        ensures stays { StaysAs self.old self.new }
+        ensures leaving { self.new.leaving ≡ self.old.leaving }
+        ensures items { length out.new.items ≡ length out.old.items }
     {
         while let Some(p) = self.registers.take_first(addr) {
             self.serve(addr, &p, now, q, out);
@@ -200,6 +230,7 @@ impl Cache {
     // Requests from above.
 
     /// Whether a request could need a register, a target or a write place, and there may be none.
+    #[tactic(auto, unfolding(gm_cache::specs::Rule::is_blocked))]
     fn is_blocked(&self) -> bool
         ensures { result ≡ is_blocked (shown self.now) }
     {
@@ -218,7 +249,7 @@ impl Cache {
     /// Whether a request lies in a line.
     fn lies_in_a_line(&self, p: &Packet) -> bool
         requires { MayPass p.now }
-        ensures { result ≡ fits self.now.line p.now p.now.cmd }
+        ensures { result ≡ fits self.now.lines.line p.now p.now.cmd }
     {
         let line = self.line as u64;
         match p.cmd {
@@ -230,15 +261,17 @@ impl Cache {
 
     /// An access of a line: it is there; or it is on its way; or it is asked for.
     fn access(&mut self, addr: u64, p: &Packet, now: Tick, q: &mut EventQueue, out: &mut Outbox)
-        requires target { IsTarget self.old.line addr p.now }
+        requires target { IsTarget self.old.lines.line addr p.now }
         requires free { is_full self.old.registers ≡ false }
         requires tick { now ≤ TOP }
         requires above { length self.old.answers.flow.items < 512 }
         requires below { length self.old.leaving.flow.items < 512 }
         requires room { HasRoom out.old }
         requires handles { HasBoth q.old.table self.old.object.0 }
-        ensures { Goes (λ m. access_in addr p.now now (line_in m.cache addr) (find_register addr m.cache.registers) m)
+        ensures step { Goes (λ m. access_in addr p.now now (line_in m.cache addr) (find_register addr m.cache.registers) m)
             (shown self.old) (shown self.new) q.old q.new out.old out.new }
+        ensures stays { StaysAs self.old self.new }
+        ensures items { length out.new.items ≡ length out.old.items }
     {
         if self.lines.has(addr) {
             out.note(Entry::Hit {
@@ -260,16 +293,18 @@ impl Cache {
 
     /// A write-back: its bytes are the line's; or it waits for the line; or it is the line.
     fn write_back(&mut self, addr: u64, p: &Packet, now: Tick, q: &mut EventQueue, out: &mut Outbox)
-        requires target { IsTarget self.old.line addr p.now }
-        requires whole { length (carried_bytes p.now) ≡ self.old.line }
+        requires target { IsTarget self.old.lines.line addr p.now }
+        requires whole { length (carried_bytes p.now) ≡ self.old.lines.line }
         requires free { is_full self.old.registers ≡ false }
         requires tick { now ≤ TOP }
         requires above { length self.old.answers.flow.items < 512 }
         requires below { length self.old.leaving.flow.items < 512 }
         requires room { HasRoom out.old }
         requires handles { HasBoth q.old.table self.old.object.0 }
-        ensures { Goes (λ m. back_in addr p.now now (line_in m.cache addr) (find_register addr m.cache.registers) m)
+        ensures step { Goes (λ m. back_in addr p.now now (line_in m.cache addr) (find_register addr m.cache.registers) m)
             (shown self.old) (shown self.new) q.old q.new out.old out.new }
+        ensures stays { StaysAs self.old self.new }
+        ensures items { length out.new.items ≡ length out.old.items }
     {
         if self.serve(addr, p, now, q, out) {
             return;
@@ -290,7 +325,9 @@ impl Cache {
         requires below { length self.old.leaving.flow.items < 512 }
         requires room { HasRoom out.old }
         requires handles { HasBoth q.old.table self.old.object.0 }
-        ensures { Goes (λ m. taking p.now now (is_cached m.cache p.now) m) (shown self.old) (shown self.new) q.old q.new out.old out.new }
+        ensures step { Goes (λ m. taking p.now now (is_cached m.cache p.now) m) (shown self.old) (shown self.new) q.old q.new out.old out.new }
+        ensures stays { StaysAs self.old self.new }
+        ensures items { length out.new.items ≡ length out.old.items }
     {
         if !self.is_cached(p) {
             self.send_below(p, now, q);
@@ -344,7 +381,9 @@ impl Cache {
         requires few { length (packets_in (shown self.old)) ≤ most_held }
         requires room { HasRoom out.old }
         requires handles { HasBoth q.old.table self.old.object.0 }
-        ensures { Goes (λ m. returning p.now now (is_fill m.cache p.now) m) (shown self.old) (shown self.new) q.old q.new out.old out.new }
+        ensures step { Goes (λ m. returning p.now now (is_fill m.cache p.now) m) (shown self.old) (shown self.new) q.old q.new out.old out.new }
+        ensures stays { StaysAs self.old self.new }
+        ensures items { length out.new.items ≡ length out.old.items }
     {
         if self.is_fill(p) && self.registers.has(p.addr) {
             self.fill(p, now, q, out);
@@ -362,7 +401,9 @@ impl Cache {
         requires few { length (packets_in (shown self.old)) ≤ most_held }
         requires room { HasRoom out.old }
         requires handles { HasBoth q.old.table self.old.object.0 }
-        ensures { Goes (λ m. fill_in p.now now (find_register p.now.addr m.cache.registers) m) (shown self.old) (shown self.new) q.old q.new out.old out.new }
+        ensures step { Goes (λ m. fill_in p.now now (find_register p.now.addr m.cache.registers) m) (shown self.old) (shown self.new) q.old q.new out.old out.new }
+        ensures stays { StaysAs self.old self.new }
+        ensures items { length out.new.items ≡ length out.old.items }
     {
         if !self.lines.has(p.addr) {
             self.install(p.addr, p, false, now, q, out);
@@ -411,7 +452,7 @@ impl Cache {
     /// The first packet of a queue was taken: the next may be offered once it is ready.
     fn sent(&mut self, port: u8, now: Tick, q: &mut EventQueue)
         requires handles { HasBoth q.old.table self.old.object.0 }
-        ensures step { (o : Out) → Goes (sent_in port now) (shown self.old) (shown self.new) q.old q.new o o }
+        ensures { (o : Out) → Goes (sent_in port now) (shown self.old) (shown self.new) q.old q.new o o }
     {
         if port == 0 {
             let next = later(now, self.answers.next_ready());

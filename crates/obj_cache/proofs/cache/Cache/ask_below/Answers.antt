@@ -1,0 +1,8 @@
+use Rattle.std.proofs.Common.{◌≡◌, ◌∙◌, ap, arith}
+use Rattle.obj_cache.proofs.Steps.{requests_goes, padded_front}
+use Rattle.obj_cache.specs.Shown.{shown}
+use Rattle.obj_cache.proofs.cache.Cache.ask_below.Goals as goal
+
+pub returns-clause-step : goal.returns-clause-step
+returns-clause-step c = λ front e.
+    requests_goes c.args.cmd c.args.addr front _ c.args.now (shown c.args.self.now) _ c.args.q.now _ c.args.out.now _ ? c.fresh.ensures.next (c.send_below.ensures.step ?)
