@@ -1,5 +1,6 @@
 -- Steps of a wake that go by what the cache has: lines that serve, lines that come and go, and requests and responses.
 use Rattle.std.proofs.Common.{◌≡◌, ℕ, zero, suc, ◌+◌, ◌-◌, ◌%◌, ◌==◌, ◌&&◌, not, Bool, true, false, List, [], ◌∷◌, ◌++◌, refl, sym, ◌∙◌, ap, arith, subst, Option, Some, None, is_some, IsTrue, length, if◌then◌else◌}
+use Rattle.std.proofs.lemmas.List.{length-set}
 use Rattle.std.specs.Option.{option_map}
 use Rattle.cache_tags.specs.Line.{Line, in_front, come_in, leaving_line, padded, victim}
 use Rattle.cache_tags.specs.declared.place.Victim.{Victim}
@@ -14,7 +15,7 @@ use Rattle.pkt_pool.specs.Packet.{is_response}
 use Rattle.pkt_pool.specs.declared.cmd.Cmd.{Cmd}
 use Rattle.pkt_pool.specs.declared.cmd.Cmd.TheVariants as cmds
 use Rattle.pkt_pool.specs.declared.packet.Packet.{Packet}
-use Rattle.obj_cache.specs.Sets.{response_by}
+use Rattle.obj_cache.specs.Sets.{Sets, come_to, served_in, response_by, response_in, line_in as line_of}
 use Rattle.obj_cache.specs.Step.{Stands, Goes}
 use Rattle.obj_cache.proofs.Steps.{followed, goes_by, state_goes, notes_goes}
 
@@ -43,7 +44,7 @@ goes_for f s s' q q' o o' h = λ m q₀ o₀ st. subst (λ (c : CacheState). Sta
 -- A line serves a request.
 
 -- the line is the most recently used of its set
-abbrev with_used : Line → CacheState → CacheState
+abbrev pub with_used : Line → CacheState → CacheState
 with_used l s = with_set s l.address (in_front l (set_at s l.address))
 
 uses : (l : Line) (s : CacheState) (q : Queue) (o : Out) → Goes (using l) s (with_used l s) q q o o
@@ -152,3 +153,59 @@ evicts_dirty (Some v) w now s s' q q' o o' e d h =
     let dirty : v.dirty ≡ true = ap (λ (x : Victim). x.dirty) same ∙ d in
     subst (λ b. Goes (λ m. if b then requesting cmds.WriteBack v.address v.bytes now m else m) s s' q q' o o') (sym dirty)
     (subst (λ a. Goes (requesting cmds.WriteBack a v.bytes now) s s' q q' o o') (sym (ap (λ (x : Victim). x.addr) same)) (h v.bytes (ap (λ (x : Victim). x.bytes) same)))
+
+-- The lines that a cache shows are those of its sets.
+
+abbrev pub with_sets : CacheState → Sets → CacheState
+with_sets s z = record s { common = record s.common { line = z.line }; sets = length z.lines; ways = z.ways; lines = z.lines }
+
+pub come_state : (s : CacheState) (k z : Sets) (l : Line) → z ≡ come_to k l → with_sets s z ≡ with_come l (with_sets s k)
+come_state s k z l e =
+    ap (with_sets s) e ∙ ap (λ n. let t : CacheState = record (with_come l (with_sets s k)) { sets = n } in t) (length-set k.lines _ _)
+
+after_address : (l : Line) (x : Packet) (cmd : Cmd) → (line_after l x cmd).address ≡ l.address
+after_address l x cmds.Read = refl
+after_address l x cmds.Write = refl
+after_address l x cmds.WriteBack = refl
+after_address l x cmds.ReadResp = refl
+after_address l x cmds.WriteResp = refl
+
+pub used_state : (s : CacheState) (k z : Sets) (l : Line) (x : Packet) → z ≡ served_in k (Some l) x → with_sets s z ≡ with_used (line_after l x x.cmd) (with_sets s k)
+used_state s k z l x e =
+    ap (with_sets s) e ∙ ap (λ n. let t : CacheState = record (with_set (with_sets s k) l.address (in_front (line_after l x x.cmd) (set_at (with_sets s k) l.address))) { sets = n } in t)
+    (length-set k.lines _ _)
+    ∙ sym (ap (λ a. with_set (with_sets s k) a (in_front (line_after l x x.cmd) (set_at (with_sets s k) a))) (after_address l x x.cmd))
+
+-- a line is there, or none is
+pub found_by : (A : Type 0) (v : Option Line) → is_some v ≡ true → ((l : Line) → v ≡ Some l → A) → A
+found_by A None e f = absurd (cc)
+found_by A (Some l) e f = f l refl
+
+pub none_by : (v : Option Line) → is_some v ≡ false → v ≡ None
+none_by None e = refl
+none_by (Some l) e = cc
+
+-- A call that serves by the sets.
+
+pub serve_answers : (s : CacheState) (k z : Sets) (a : ℕ) (x y : Packet) (now : ℕ) (s' : CacheState) (q q' : Queue) (o o' : Out) → is_some (line_of k a) ≡ true
+    → z ≡ served_in k (line_of k a) x → y ≡ response_in (line_of k a) x → IsTrue (fits k.line x x.cmd) → is_response y.cmd ≡ true
+    → Goes (sending_above y now) (with_sets s z) s' q q' o o → o' ≡ extended o [] (served_entries (record y { cmd = x.cmd }) y false) o.next
+    → Goes (serving a x now) (with_sets s k) s' q q' o o'
+serve_answers s k z a x y now s' q q' o o' e ez ey i r h ko =
+    found_by (Goes (serving a x now) (with_sets s k) s' q q' o o') (line_of k a) e (λ l f. serves_found l a x now (with_sets s k) s' q q' o o' f
+    (answers_goes l x y x.cmd k.line now (with_sets s k) s' q q' o o' refl i (ey ∙ ap (λ (v : Option Line). response_in v x) f) r
+    (subst (λ (t : CacheState). Goes (sending_above y now) t s' q q' o o) (used_state s k z l x (ez ∙ ap (λ (v : Option Line). served_in k v x) f)) h) ko))
+
+pub serve_takes : (s : CacheState) (k z : Sets) (a : ℕ) (x y : Packet) (now : ℕ) (q : Queue) (o : Out) → is_some (line_of k a) ≡ true
+    → z ≡ served_in k (line_of k a) x → y ≡ response_in (line_of k a) x → IsTrue (fits k.line x x.cmd) → is_response y.cmd ≡ false
+    → Goes (serving a x now) (with_sets s k) (with_sets s z) q q o o
+serve_takes s k z a x y now q o e ez ey i r =
+    found_by (Goes (serving a x now) (with_sets s k) (with_sets s z) q q o o) (line_of k a) e (λ l f. serves_found l a x now (with_sets s k) (with_sets s z) q q o o f
+    (takes_over l x y x.cmd k.line now (with_sets s k) (with_sets s z) q o refl i (ey ∙ ap (λ (v : Option Line). response_in v x) f) r
+    (used_state s k z l x (ez ∙ ap (λ (v : Option Line). served_in k v x) f))))
+
+pub serve_lacks : (s : CacheState) (k z : Sets) (a : ℕ) (x : Packet) (now : ℕ) (q : Queue) (o : Out) → is_some (line_of k a) ≡ false
+    → z ≡ served_in k (line_of k a) x → Goes (serving a x now) (with_sets s k) (with_sets s z) q q o o
+serve_lacks s k z a x now q o e ez =
+    let f = none_by (line_of k a) e in
+    serves_none a x now (with_sets s k) (with_sets s z) q o f (ap (with_sets s) (ez ∙ ap (λ (v : Option Line). served_in k v x) f))

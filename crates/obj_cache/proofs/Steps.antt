@@ -5,7 +5,7 @@ use Rattle.std.proofs.lemmas.List.{append_assoc, append-nil, map-append, drop-re
 use Rattle.ev_queue.specs.Queue.{Queue}
 use Rattle.ev_queue.specs.declared.due.Due.{Due}
 use Rattle.cache_tags.specs.Line.{padded}
-use Rattle.pkt_pool.specs.Packet.{with_front}
+use Rattle.pkt_pool.specs.Packet.{with_front, request}
 use Rattle.pkt_pool.specs.declared.cmd.Cmd.{Cmd}
 use Rattle.gm_cache.specs.State.{CacheState, answers_outlet, leaving_outlet}
 use Rattle.gm_cache.specs.Rule.{CacheMoved, above_moved, below_moved, sending_above, sending_below, requesting, line_request, sent_in, next_ready, later, noting}
@@ -222,3 +222,13 @@ requests_goes cmd a bytes x now s s' q q' o o' e k h = λ m q₀ o₀ st.
 -- a line's bytes in front of a packet's, which are zeros
 pub padded_front : (bytes : List ℕ) → padded bytes ≡ with_front (replicate 64 0) bytes
 padded_front bytes = ap (λ (l : List ℕ). bytes ++ l) (sym (drop-replicate (length bytes) 64 0))
+
+-- a packet that is a line's request: its number, its size and its bytes are told by equations
+pub own_request : (source size line m n : ℕ) (cmd : Cmd) (a : ℕ) (front bytes : List ℕ) → m ≡ n → size ≡ line → padded front ≡ bytes
+    → (let x : Packet = record { id = record { 0 = m }; src = source; cmd = cmd; addr = a; size = size; bytes = bytes; uncached = false; fault = false; stack = replicate 8 0; depth = 0 } in x)
+    ≡ request n source cmd a line front false
+own_request source size line m n cmd a front bytes e f g =
+    ap (λ i. let x : Packet = record { id = record { 0 = i }; src = source; cmd = cmd; addr = a; size = size; bytes = bytes; uncached = false; fault = false; stack = replicate 8 0; depth = 0 } in x) e
+    ∙ ap (λ i. let x : Packet = record { id = record { 0 = n }; src = source; cmd = cmd; addr = a; size = i; bytes = bytes; uncached = false; fault = false; stack = replicate 8 0; depth = 0 } in x) f
+    ∙ ap (λ i. let x : Packet = record { id = record { 0 = n }; src = source; cmd = cmd; addr = a; size = line; bytes = i; uncached = false; fault = false; stack = replicate 8 0; depth = 0 } in x)
+    (sym g ∙ padded_front front)

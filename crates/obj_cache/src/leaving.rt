@@ -2,7 +2,8 @@
 ghost use Rattle.std.specs.Prelude.{◌≡◌, ◌<◌, ◌≤◌, ◌==◌, [], length, IfOk, IfSome, IsTrue, is_some, option_copied, slice_get};
 ghost use Rattle.std.specs.Option.{option_map};
 ghost use Rattle.ev_queue.specs.SlotTable.{gave};
-ghost use Rattle.gm_cache.specs.Rule.{backs};
+ghost use Rattle.gm_cache.specs.Rule.{backs, back_bit};
+ghost use Rattle.obj_cache.specs.Leaving.{first_bit};
 ghost use Rattle.gm_words.specs.Allowed.{MayPass};
 ghost use Rattle.gm_words.specs.Changes.{changed};
 ghost use Rattle.gm_words.specs.Flow.{quiet_flow};
@@ -14,7 +15,7 @@ ghost use Rattle.obj_core.specs.Out.{extended};
 
 use ev_queue::{EventHandle, EventQueue};
 use gc_base::{NoMemory, PortNo, Tick};
-use gm_model::Packet;
+use gm_model::{Cmd, Packet};
 use obj_core::{Flow, Outbox};
 use std::alloc::Global;
 use std::marker::Model;
@@ -82,9 +83,7 @@ impl Leaving {
           pending = changed event.now.owner q.old.pending (put_in (outlet_of event.now.slot 10) p.now ready self.old.flow.items self.old.flow.out).changes;
         } }
     {
-        if p.is_write_back() {
-            self.backs += 1;
-        }
+        self.backs += back_count(p);
         self.flow.put(p, ready, event, q);
     }
 
@@ -96,12 +95,18 @@ impl Leaving {
           pending = changed event.now.owner q.old.pending (gone_in (outlet_of event.now.slot 10) next self.old.flow.items).changes;
         } }
     {
-        if let Some(first) = self.flow.first() {
-            if first.is_write_back() {
-                self.backs -= 1;
-            }
-        }
+        self.backs -= self.first_count();
         self.flow.drop_first(next, event, q);
+    }
+
+    /// How many write-backs the first packet is: 1, or 0.
+    fn first_count(&self) -> u32
+        ensures { result ≡ first_bit self.now.flow.items }
+    {
+        match self.flow.first() {
+            Some(first) => back_count(first),
+            None => 0,
+        }
     }
 
     /// At its event the first packet is offered.
@@ -136,5 +141,16 @@ impl Leaving {
         ensures packet { p.new ≡ read_of p.old (queued_bytes self.now.flow.items p.old.addr p.old.size) }
     {
         self.flow.read(p)
+    }
+}
+
+/// How many write-backs a packet is: 1, or 0.
+fn back_count(p: &Packet) -> u32
+    ensures value { result ≡ back_bit p.now.cmd }
+    ensures most { result ≤ 1 }
+{
+    match p.cmd {
+        Cmd::WriteBack => 1,
+        Cmd::Read | Cmd::Write | Cmd::ReadResp | Cmd::WriteResp => 0,
     }
 }
