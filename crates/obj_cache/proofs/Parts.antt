@@ -73,7 +73,7 @@ used_goes l x y z now s s' q q' o o' e h k =
     followed (using l) (answering x z now) s (with_used l s) s' q q q' o o o' (uses l s q o)
     (subst (λ (w : Packet). Goes (answering x w now) (with_used l s) s' q q' o o') e (answering_goes x y now (with_used l s) s' q q' o o' h k))
 
-true_false : {A : Type 0} (b : Bool) → b ≡ true → b ≡ false → A
+pub true_false : {A : Type 0} (b : Bool) → b ≡ true → b ≡ false → A
 true_false b h k = absurd (cc)
 
 -- the line answers, and the response leaves above

@@ -178,14 +178,13 @@ impl Cache {
         }
     }
 
-    /// The line at an address serves a request, if it is there; false if it isn't.
-    fn serve(&mut self, addr: u64, p: &Packet, now: Tick, q: &mut EventQueue, out: &mut Outbox) -> bool
+    /// The line at an address serves a request, if it is there.
+    fn serve(&mut self, addr: u64, p: &Packet, now: Tick, q: &mut EventQueue, out: &mut Outbox)
         requires target { IsTarget self.old.lines.line addr p.now }
         requires tick { now ≤ TOP }
         requires room { length self.old.answers.flow.items < 512 }
         requires entries { length out.old.entries < 528 }
         requires handles { HasBoth q.old.table self.old.object.0 }
-        ensures served { result ≡ is_some (line_in (shown self.old) addr) }
         ensures step { Goes (serving addr p.now now) (shown self.old) (shown self.new) q.old q.new out.old out.new }
         ensures handles { q.new.table ≡ q.old.table }
         ensures stays { StaysAs self.old self.new }
@@ -198,13 +197,12 @@ impl Cache {
     {
         let mut response = *p;
         if !self.lines.serve(addr, &mut response) {
-            return false;
+            return;
         }
         if response.is_response() {
             self.send_above(&response, now, q);
             note_served(p.cmd, &response, ServedBy::Ram, out);
         }
-        true
     }
 
     /// Those who wait for the line at an address are served in order, and nobody waits for it then.
@@ -306,7 +304,8 @@ impl Cache {
         ensures stays { StaysAs self.old self.new }
         ensures items { length out.new.items ≡ length out.old.items }
     {
-        if self.serve(addr, p, now, q, out) {
+        if self.lines.has(addr) {
+            self.serve(addr, p, now, q, out);
             return;
         }
         if self.registers.has(addr) {
@@ -334,9 +333,10 @@ impl Cache {
             return;
         }
         let addr = p.addr - p.addr % self.line as u64;
-        match p.cmd {
-            Cmd::WriteBack => self.write_back(addr, p, now, q, out),
-            _ => self.access(addr, p, now, q, out),
+        if p.is_write_back() {
+            self.write_back(addr, p, now, q, out);
+        } else {
+            self.access(addr, p, now, q, out);
         }
     }
 
