@@ -11,13 +11,14 @@ use Rattle.pkt_pool.specs.Packet.{carried_bytes, is_write_back}
 use Rattle.pkt_pool.specs.declared.cmd.Cmd.{Cmd}
 use Rattle.pkt_pool.specs.declared.cmd.Cmd.TheVariants as cmds
 use Rattle.pkt_pool.specs.declared.packet.Packet.{Packet}
+use Rattle.obj_cache.specs.Held.{Held}
 use Rattle.obj_cache.specs.Step.{Stands, Goes}
 use Rattle.obj_cache.proofs.Steps.{followed, goes_by, state_goes, notes_goes}
 use Rattle.obj_cache.proofs.Parts.{but_moves, arrives, goes_for, found_by, none_by, true_false}
 
-hit : ℕ → List Entry
+abbrev pub hit : ℕ → List Entry
 hit i = entries.Hit (record { 0 = i }) ∷ []
-miss : ℕ → List Entry
+abbrev pub miss : ℕ → List Entry
 miss i = entries.Miss (record { 0 = i }) ∷ []
 
 -- what is noted, and then a step
@@ -171,3 +172,7 @@ whole_by line x cmds.Read e f = true_false false e refl
 whole_by line x cmds.Write e f = true_false false e refl
 whole_by line x cmds.ReadResp e f = true_false false e refl
 whole_by line x cmds.WriteResp e f = true_false false e refl
+
+-- a cache with the registers of a call
+abbrev pub with_used_registers : CacheState → Held → CacheState
+with_used_registers s h = record s { registers = h.used; mshrs = h.count; targets = h.places }

@@ -232,3 +232,7 @@ own_request source size line m n cmd a front bytes e f g =
     ∙ ap (λ i. let x : Packet = record { id = record { 0 = n }; src = source; cmd = cmd; addr = a; size = i; bytes = bytes; uncached = false; fault = false; stack = replicate 8 0; depth = 0 } in x) f
     ∙ ap (λ i. let x : Packet = record { id = record { 0 = n }; src = source; cmd = cmd; addr = a; size = line; bytes = i; uncached = false; fault = false; stack = replicate 8 0; depth = 0 } in x)
     (sym g ∙ padded_front front)
+
+-- one entry more is noted
+pub noted_out : (o o' : Out) (e : Entry) → o' ≡ (let p : Out = record o { entries = o.entries ++ e ∷ [] } in p) → o' ≡ extended o [] (e ∷ []) o.next
+noted_out o o' e h = h ∙ ap (λ (is : List Item). let p : Out = record { sender = o.sender; items = is; entries = o.entries ++ e ∷ []; next = o.next } in p) (sym (append-nil o.items))
