@@ -1,5 +1,2 @@
 pub mod Held
-pub mod Sets
-pub mod Leaving
-pub mod Shown
-pub mod Step
+pub mod RegistersKept

@@ -3,9 +3,4 @@
 //! Its promise: each call is the cache's rule. Read `specs/Shown.antt` first, and gm_cache's `specs/Rule.antt`. Only `Cache::start` takes memory.
 #![tactic(auto)]
 
-mod cache;
-mod leaving;
-mod lines;
 mod registers;
-
-pub use cache::Cache;

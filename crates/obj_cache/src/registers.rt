@@ -24,8 +24,13 @@ pub(crate) struct Registers {
 
 impl Model for Registers {
     ghost use Rattle.obj_cache.specs.Held.{Held};
+    ghost use Rattle.obj_cache.specs.RegistersKept.{shown, IsKept};
 
     ghost Value = { Held };
+
+    ghost view = { λ r. shown r.pool r.mshrs r.line };
+
+    ghost invariant = { λ r. IsKept r.pool r.mshrs r.line };
 }
 
 impl Registers {
