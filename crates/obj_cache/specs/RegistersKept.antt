@@ -36,15 +36,18 @@ abbrev pub times : ℕ → List ℕ → ℕ
 times k [] = 0
 times k (j ∷ js) = bit (j == k) + times k js
 
--- how often it is a target of a register
+-- what the targets of the registers make together
+abbrev pub sum_in : (List ℕ → ℕ) → List kept.Register → ℕ
+sum_in f [] = 0
+sum_in f (r ∷ rs) = f r.targets + sum_in f rs
+
+-- how often a key is a target of a register
 abbrev pub times_in : ℕ → List kept.Register → ℕ
-times_in k [] = 0
-times_in k (r ∷ rs) = times k r.targets + times_in k rs
+times_in k rs = sum_in (times k) rs
 
 -- how many targets the registers have
 abbrev pub all_targets : List kept.Register → ℕ
-all_targets [] = 0
-all_targets (r ∷ rs) = length r.targets + all_targets rs
+all_targets rs = sum_in (λ ks. length ks) rs
 
 -- each target lies in the line of its register
 abbrev pub AreInLine : ℕ → Pooled → List kept.Register → Type 0
