@@ -39,11 +39,11 @@ packets_append p (k ∷ ks) js =
     ap (λ xs. packets_by (packet_at p k) xs) (packets_append p ks js) ∙ by_append (packet_at p k) (packets_of p ks) (packets_of p js)
 
 -- a packet comes in behind the others
-put_packets : (p q : Pooled) (ks : List ℕ) (k : ℕ) (x : Packet) → Changes p q k (Some x) → times k ks ≡ 0 → packets_of q (ks ++ k ∷ []) ≡ packets_of p ks ++ x ∷ []
+pub put_packets : (p q : Pooled) (ks : List ℕ) (k : ℕ) (x : Packet) → Changes p q k (Some x) → times k ks ≡ 0 → packets_of q (ks ++ k ∷ []) ≡ packets_of p ks ++ x ∷ []
 put_packets p q ks k x c n =
     packets_append q ks (k ∷ []) ∙ rw c.changed (ap (λ xs. xs ++ x ∷ []) (unseen p q ks k (Some x) c n))
 
-times_append : (k : ℕ) (ks js : List ℕ) → times k (ks ++ js) ≡ times k ks + times k js
+pub times_append : (k : ℕ) (ks js : List ℕ) → times k (ks ++ js) ≡ times k ks + times k js
 times_append k [] js = omega arith
 times_append k (i ∷ is) js = omega (arith, times_append k is js)
 
@@ -52,7 +52,7 @@ by_count None xs h = absurd (omega (arith, h))
 by_count (Some x) xs h = omega arith
 
 -- each key of a list has a packet
-length_packets : (p : Pooled) (ks : List ℕ) → ((k : ℕ) → times k ks ≤ bit (is_some (packet_at p k))) → length (packets_of p ks) ≡ length ks
+pub length_packets : (p : Pooled) (ks : List ℕ) → ((k : ℕ) → times k ks ≤ bit (is_some (packet_at p k))) → length (packets_of p ks) ≡ length ks
 length_packets p [] h = refl
 length_packets p (k ∷ ks) h =
     let here : times k (k ∷ ks) ≡ 1 + times k ks = rw (eq-eqb k k refl) refl in
@@ -61,7 +61,7 @@ length_packets p (k ∷ ks) h =
 -- Where each key holds a packet.
 
 -- one more comes in
-held_put : (p q : Pooled) (k : ℕ) (x : Packet) (n m : ℕ → ℕ) → Changes p q k (Some x) → packet_at p k ≡ None → ((j : ℕ) → n j ≤ bit (is_some (packet_at p j)))
+pub held_put : (p q : Pooled) (k : ℕ) (x : Packet) (n m : ℕ → ℕ) → Changes p q k (Some x) → packet_at p k ≡ None → ((j : ℕ) → n j ≤ bit (is_some (packet_at p j)))
     → ((j : ℕ) → m j ≡ n j + bit (k == j)) → (j : ℕ) → m j ≤ bit (is_some (packet_at q j))
 held_put p q k x n m c v h e j = by (cases_eq j k) where
   by : (j ≡ k) ⊎ (j ≡ k → ⊥) → m j ≤ bit (is_some (packet_at q j))
@@ -75,7 +75,7 @@ held_put p q k x n m c v h e j = by (cases_eq j k) where
       omega (arith, same, other, h j, e j)
 
 -- one goes
-held_taken : (p q : Pooled) (k : ℕ) (n m : ℕ → ℕ) → Changes p q k None → ((j : ℕ) → n j ≤ bit (is_some (packet_at p j)))
+pub held_taken : (p q : Pooled) (k : ℕ) (n m : ℕ → ℕ) → Changes p q k None → ((j : ℕ) → n j ≤ bit (is_some (packet_at p j)))
     → ((j : ℕ) → n j ≡ m j + bit (k == j)) → (j : ℕ) → m j ≤ bit (is_some (packet_at q j))
 held_taken p q k n m c h e j = by (cases_eq j k) where
   by : (j ≡ k) ⊎ (j ≡ k → ⊥) → m j ≤ bit (is_some (packet_at q j))
@@ -87,16 +87,16 @@ held_taken p q k n m c h e j = by (cases_eq j k) where
       omega (arith, same, h j, e j)
 
 -- a key that holds nothing is no target
-no_target : (p : Pooled) (rs : List kept.Register) (k : ℕ) → ((j : ℕ) → times_in j rs ≤ bit (is_some (packet_at p j))) → packet_at p k ≡ None → times_in k rs ≡ 0
+pub no_target : (p : Pooled) (rs : List kept.Register) (k : ℕ) → ((j : ℕ) → times_in j rs ≤ bit (is_some (packet_at p j))) → packet_at p k ≡ None → times_in k rs ≡ 0
 no_target p rs k h v = let was : bit (is_some (packet_at p k)) ≡ 0 = ap (λ o. bit (is_some o)) v in omega (arith, was, h k)
 
-unseen_in : (p q : Pooled) (rs : List kept.Register) (k : ℕ) (s : Option Packet) → Changes p q k s → times_in k rs ≡ 0 → registers_of q rs ≡ registers_of p rs
+pub unseen_in : (p q : Pooled) (rs : List kept.Register) (k : ℕ) (s : Option Packet) → Changes p q k s → times_in k rs ≡ 0 → registers_of q rs ≡ registers_of p rs
 unseen_in p q [] k s c n = refl
 unseen_in p q (r ∷ rs) k s c n =
     rw (unseen p q r.targets k s c (omega (arith, n)))
     (ap (λ hs. record { address = r.address; targets = packets_of p r.targets } ∷ hs) (unseen_in p q rs k s c (omega (arith, n))))
 
-in_line_unseen : (line : ℕ) (p q : Pooled) (rs : List kept.Register) (k : ℕ) (s : Option Packet) → Changes p q k s → times_in k rs ≡ 0
+pub in_line_unseen : (line : ℕ) (p q : Pooled) (rs : List kept.Register) (k : ℕ) (s : Option Packet) → Changes p q k s → times_in k rs ≡ 0
     → AreInLine line p rs → AreInLine line q rs
 in_line_unseen line p q [] k s c n h = tt
 in_line_unseen line p q (r ∷ rs) k s c n h = (
@@ -223,11 +223,11 @@ joined_with a x (h ∷ hs) = by (h.address == a) (joined_with a x hs) where
 
 -- What the targets make together.
 
-sum_end : (f : List ℕ → ℕ) (rs : List kept.Register) (r : kept.Register) → sum_in f (rs ++ r ∷ []) ≡ sum_in f rs + f r.targets
+pub sum_end : (f : List ℕ → ℕ) (rs : List kept.Register) (r : kept.Register) → sum_in f (rs ++ r ∷ []) ≡ sum_in f rs + f r.targets
 sum_end f [] r = omega arith
 sum_end f (x ∷ xs) r = omega (arith, sum_end f xs r)
 
-sum_with : (f : List ℕ → ℕ) (g : ℕ) (ts : List ℕ) (rs : List kept.Register) → is_open g rs ≡ true
+pub sum_with : (f : List ℕ → ℕ) (g : ℕ) (ts : List ℕ) (rs : List kept.Register) → is_open g rs ≡ true
     → sum_in f (kept.with_targets g ts rs) + f (kept.targets_of g rs) ≡ sum_in f rs + f ts
 sum_with f g ts [] o = not_both (sym o)
 sum_with f g ts (r ∷ rs) o = by (r.key == g) o (λ q. sum_with f g ts rs q) where
@@ -237,7 +237,7 @@ sum_with f g ts (r ∷ rs) o = by (r.key == g) o (λ q. sum_with f g ts rs q) wh
   by true q h = omega arith
   by false q h = omega (arith, h q)
 
-sum_without : (f : List ℕ → ℕ) (g : ℕ) (rs : List kept.Register) → is_open g rs ≡ true → sum_in f (kept.without g rs) + f (kept.targets_of g rs) ≡ sum_in f rs
+pub sum_without : (f : List ℕ → ℕ) (g : ℕ) (rs : List kept.Register) → is_open g rs ≡ true → sum_in f (kept.without g rs) + f (kept.targets_of g rs) ≡ sum_in f rs
 sum_without f g [] o = not_both (sym o)
 sum_without f g (r ∷ rs) o = by (r.key == g) o (λ q. sum_without f g rs q) where
   by : (b : Bool) → (b || is_open g rs) ≡ true → (is_open g rs ≡ true → sum_in f (kept.without g rs) + f (kept.targets_of g rs) ≡ sum_in f rs)
@@ -247,12 +247,12 @@ sum_without f g (r ∷ rs) o = by (r.key == g) o (λ q. sum_without f g rs q) wh
 
 -- In line.
 
-in_line_end : (line : ℕ) (p : Pooled) (rs : List kept.Register) (r : kept.Register) → AreInLine line p rs → All (IsTarget line r.address) (packets_of p r.targets)
+pub in_line_end : (line : ℕ) (p : Pooled) (rs : List kept.Register) (r : kept.Register) → AreInLine line p rs → All (IsTarget line r.address) (packets_of p r.targets)
     → AreInLine line p (rs ++ r ∷ [])
 in_line_end line p [] r h t = (t, tt)
 in_line_end line p (x ∷ xs) r h t = (h.0, in_line_end line p xs r h.1 t)
 
-in_line_with : (line : ℕ) (p : Pooled) (a g : ℕ) (ts : List ℕ) (rs : List kept.Register) → AreApart rs → key_of a rs ≡ Some g → AreInLine line p rs
+pub in_line_with : (line : ℕ) (p : Pooled) (a g : ℕ) (ts : List ℕ) (rs : List kept.Register) → AreApart rs → key_of a rs ≡ Some g → AreInLine line p rs
     → All (IsTarget line a) (packets_of p ts) → AreInLine line p (kept.with_targets g ts rs)
 in_line_with line p a g ts [] h f l t = tt
 in_line_with line p a g ts (r ∷ rs) h f l t = by (cases_eq r.address a) (λ k. in_line_with line p a g ts rs h.2 k l.1 t) where
@@ -264,14 +264,14 @@ in_line_with line p a g ts (r ∷ rs) h f l t = by (cases_eq r.address a) (λ k.
       let k : key_of a rs ≡ Some g = later_key a g r rs d f in
       rw (ne_eqb r.key g (other_key a g r.key rs h.1 k)) (l.0, ih k)
 
-in_line_without : (line : ℕ) (p : Pooled) (g : ℕ) (rs : List kept.Register) → AreInLine line p rs → AreInLine line p (kept.without g rs)
+pub in_line_without : (line : ℕ) (p : Pooled) (g : ℕ) (rs : List kept.Register) → AreInLine line p rs → AreInLine line p (kept.without g rs)
 in_line_without line p g [] l = tt
 in_line_without line p g (r ∷ rs) l = by (r.key == g) (in_line_without line p g rs l.1) where
   by : (b : Bool) → AreInLine line p (kept.without g rs) → AreInLine line p (if b then rs else r ∷ kept.without g rs)
   by true h = l.1
   by false h = (l.0, h)
 
-in_line_at : (line : ℕ) (p : Pooled) (a g : ℕ) (rs : List kept.Register) → AreApart rs → key_of a rs ≡ Some g → AreInLine line p rs
+pub in_line_at : (line : ℕ) (p : Pooled) (a g : ℕ) (rs : List kept.Register) → AreApart rs → key_of a rs ≡ Some g → AreInLine line p rs
     → All (IsTarget line a) (packets_of p (kept.targets_of g rs))
 in_line_at line p a g [] h f l = absurd (cc)
 in_line_at line p a g (r ∷ rs) h f l = by (cases_eq r.address a) (λ k. in_line_at line p a g rs h.2 k l.1) where
