@@ -244,6 +244,11 @@ gone_none p m line a n =
 pub first_none : (p : Pooled) (a : ℕ) (m : Registers) → key_of a m.used ≡ None → None ≡ slice_get (targets_of a (registers_of p m.used)) 0
 first_none p a m n = rw (targets_none p a m.used n) refl
 
+pub none_first : (p : Pooled) (m : Registers) (line g a : ℕ) → IsKept p m line → key_of a m.used ≡ Some g → kept.targets_of g m.used ≡ []
+    → None ≡ slice_get (targets_of a (registers_of p m.used)) 0
+none_first p m line g a i f e =
+    sym (ap (λ xs. slice_get xs 0) (targets_shown p a g m.used i.sound.apart f ∙ ap (λ ks. packets_of p ks) e))
+
 -- One is closed.
 
 no_packets : (p : Pooled) (m : Registers) (line g a : ℕ) → IsKept p m line → key_of a m.used ≡ Some g → targets_of a (registers_of p m.used) ≡ []
