@@ -33,7 +33,7 @@ by_append : (o : Option Packet) (xs ys : List Packet) → packets_by o (xs ++ ys
 by_append None xs ys = refl
 by_append (Some x) xs ys = refl
 
-packets_append : (p : Pooled) (ks js : List ℕ) → packets_of p (ks ++ js) ≡ packets_of p ks ++ packets_of p js
+pub packets_append : (p : Pooled) (ks js : List ℕ) → packets_of p (ks ++ js) ≡ packets_of p ks ++ packets_of p js
 packets_append p [] js = refl
 packets_append p (k ∷ ks) js =
     ap (λ xs. packets_by (packet_at p k) xs) (packets_append p ks js) ∙ by_append (packet_at p k) (packets_of p ks) (packets_of p js)

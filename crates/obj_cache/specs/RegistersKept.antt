@@ -22,6 +22,10 @@ abbrev pub registers_of : Pooled → List kept.Register → List Register
 registers_of p [] = []
 registers_of p (r ∷ rs) = record { address = r.address; targets = packets_of p r.targets } ∷ registers_of p rs
 
+-- the packets that wait in the register of a key
+abbrev pub packets_at : Pooled → Registers → ℕ → List Packet
+packets_at p m k = packets_of p (kept.targets_of k m.used)
+
 -- what contracts see of them, where a line has so many bytes
 abbrev pub shown : Pooled → Registers → ℕ → Held
 shown p m line = record { used = registers_of p m.used; count = m.count; places = m.places; line = line }
