@@ -112,7 +112,7 @@ by_rest : (o : Option Packet) (xs : List Packet) → 1 ≤ bit (is_some o) → d
 by_rest None xs h = absurd (omega (arith, h))
 by_rest (Some x) xs h = refl
 
-all_rest : (P : Packet → Type 0) (o : Option Packet) (xs : List Packet) → All P (packets_by o xs) → All P xs
+pub all_rest : (P : Packet → Type 0) (o : Option Packet) (xs : List Packet) → All P (packets_by o xs) → All P xs
 all_rest P None xs h = h
 all_rest P (Some x) xs h = All-tail P x xs h
 
