@@ -1,5 +1,6 @@
 -- The registers that keys stand for, as a slab changes at one key.
-use Rattle.std.proofs.Common.{◌≡◌, ◌≢◌, ℕ, suc, zero, ◌+◌, ◌<◌, ◌==◌, ◌||◌, refl, sym, ◌∙◌, ap, arith, subst, eq-eqb, ne_eqb, Bool, true, false, List, [], ◌∷◌, ◌++◌, length, get_or, Option, Some, None, IsSome, is_some, ◌⊎◌, inl, inr}
+use Rattle.std.proofs.Common.{◌≡◌, ◌≢◌, ℕ, suc, zero, ◌+◌, ◌<◌, ◌==◌, ◌||◌, refl, sym, ◌∙◌, ap, arith, subst, eq-eqb, ne_eqb, Bool, true, false, List, [], ◌∷◌, ◌++◌, length, get_or, Option, Some, None, IsSome, is_some, slice_get, ◌⊎◌, inl, inr}
+use Rattle.std.specs.Option.{option_map}
 use Rattle.std.proofs.lemmas.Bool.{cases_eq}
 use Rattle.slab.specs.Slab.{Slab, get, Updates}
 use Rattle.cache_mshr.specs.declared.entry.Entry.{Entry}
@@ -179,3 +180,17 @@ less s (k ∷ ks) j h o = by (cases_eq k j) (λ p. less s ks j h.1 p) where
       → length (without_key j (k ∷ ks)) + 1 ≡ length (k ∷ ks)
   by (inl f) g = rw (eq-eqb k j f) (omega arith)
   by (inr d) g = rw (ne_eqb k j d) (omega (arith, g (behind j k _ d (sym (front_open j k (get s k) (registers_of s ks) h.0) ∙ o))))
+
+-- The keys by position.
+
+pub key_at : (s : Slab Entry) (ks : List ℕ) (n : ℕ) → AreHeld s ks → option_map (λ (r : Register). r.key) (slice_get (registers_of s ks) n) ≡ slice_get ks n
+key_at s [] n h = refl
+key_at s (k ∷ ks) zero h = by (get s k) h.0 where
+  by : (o : Option Entry) → IsSome o → option_map (λ (r : Register). r.key) (slice_get (with_front k o (registers_of s ks)) 0) ≡ Some k
+  by None i = absurd (cc)
+  by (Some r) i = refl
+key_at s (k ∷ ks) (suc n) h = by (get s k) h.0 (key_at s ks n h.1) where
+  by : (o : Option Entry) → IsSome o → option_map (λ (r : Register). r.key) (slice_get (registers_of s ks) n) ≡ slice_get ks n
+      → option_map (λ (r : Register). r.key) (slice_get (with_front k o (registers_of s ks)) (suc n)) ≡ slice_get (k ∷ ks) (suc n)
+  by None i g = absurd (cc)
+  by (Some r) i g = g

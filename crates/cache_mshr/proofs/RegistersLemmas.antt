@@ -20,7 +20,7 @@ neither false b e = (refl, e)
 pub differs : (x k : ℕ) → (x == k) ≡ false → x ≢ k
 differs x k n e = not_both (sym (eq-eqb x k e) ∙ n)
 
-other_line : (a : ℕ) (x : Register) (xs : List Register) → key_of a (x ∷ xs) ≡ None → (x.address ≢ a) × (key_of a xs ≡ None)
+pub other_line : (a : ℕ) (x : Register) (xs : List Register) → key_of a (x ∷ xs) ≡ None → (x.address ≢ a) × (key_of a xs ≡ None)
 other_line a x xs n = (λ e. some (sym (here e) ∙ n), by (x.address == a) n) where
   here : x.address ≡ a → key_of a (x ∷ xs) ≡ Some x.key
   here e = rw (eq-eqb x.address a e) refl

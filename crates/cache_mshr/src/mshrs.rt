@@ -1,6 +1,7 @@
 // The miss registers of a cache.
 ghost use Rattle.std.specs.Prelude.{◌≡◌, ◌<◌, ◌≤◌, [], length, false, None, IsTrue, IfOk, IfSome, slice_get};
 ghost use Rattle.gc_base.specs.Limits.{most_targets};
+ghost use Rattle.std.specs.Option.{option_map};
 ghost use Rattle.std.specs.Vec.{vec_capacity};
 ghost use Rattle.cache_mshr.specs.Kept.{without_key};
 ghost use Rattle.cache_mshr.specs.Registers.{key_of, is_open, targets_of, has_full, is_full, opened, joined, first_gone, closed, AreSound};
@@ -93,6 +94,18 @@ impl Mshrs {
             }
         }
         None
+    }
+
+    /// The key of the open register before which n others were opened, if there is one.
+    pub fn at(&self, n: u32) -> Option<usize>
+        ensures key { result ≡ option_map (λ r. r.key) (slice_get self.now.used n) }
+        ensures known { IfSome result (λ k. IsTrue (is_open k self.now.used)) }
+    {
+        if n < self.used() {
+            Some(self.keys[n as usize])
+        } else {
+            None
+        }
     }
 
     /// Opens a register for a line, for which this packet waits first, and gives its key.

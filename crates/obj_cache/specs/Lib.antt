@@ -1,4 +1,5 @@
 pub mod Held
+pub mod RegistersKept
 pub mod Sets
 pub mod Leaving
 pub mod Shown

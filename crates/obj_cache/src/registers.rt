@@ -1,14 +1,19 @@
 // The registers of a cache: which lines are on their way to it, and the packets that wait for each.
-ghost use Rattle.std.specs.Prelude.{◌≡◌, ◌+◌, ◌≤◌, ◌==◌, [], ◌∷◌, ◌++◌, length, false, None, IfOk, IfSome, is_some, slice_get};
+ghost use Rattle.std.specs.Prelude.{◌≡◌, ◌+◌, ◌-◌, ◌≤◌, ◌==◌, [], ◌∷◌, ◌++◌, length, take, drop, false, None, IfOk, IfSome, IsTrue, is_some, slice_get, All};
 ghost use Rattle.gc_base.specs.Limits.{most_targets};
 ghost use Rattle.gm_words.specs.Allowed.{MayPass};
 ghost use Rattle.gm_cache.specs.State.{find_register, without_register, joined, targets_in};
 ghost use Rattle.gm_cache.specs.Rule.{newest_bytes};
+ghost use Rattle.gm_model.specs.Memory.{covers};
 ghost use Rattle.gm_model.specs.Xbar.{read_of};
+ghost use Rattle.pkt_pool.specs.Packet.{carried_bytes, read_response};
+ghost use Rattle.cache_mshr.specs.Registers.{is_open, AreSound};
 ghost use Rattle.obj_cache.specs.Held.{is_full, IsTarget, targets_of, first_gone};
+ghost use Rattle.obj_cache.specs.RegistersKept.{packets_at};
 
 use cache_mshr::Mshrs;
 use gc_base::NoMemory;
+use gc_base::limits::TARGETS_MAX;
 use gm_model::Packet;
 use pkt_pool::Pool;
 use std::alloc::Global;
@@ -24,8 +29,13 @@ pub(crate) struct Registers {
 
 impl Model for Registers {
     ghost use Rattle.obj_cache.specs.Held.{Held};
+    ghost use Rattle.obj_cache.specs.RegistersKept.{shown, IsKept};
 
     ghost Value = { Held };
+
+    ghost view = { λ r. shown r.pool r.mshrs r.line };
+
+    ghost invariant = { λ r. IsKept r.pool r.mshrs r.line };
 }
 
 impl Registers {
@@ -122,6 +132,61 @@ impl Registers {
         ensures answered { result ≡ is_some (newest_bytes (targets_in self.now.used) p.old.addr p.old.size) }
         ensures packet { p.new ≡ read_of p.old (newest_bytes (targets_in self.now.used) p.old.addr p.old.size) }
     {
+        let mut n = self.mshrs.used();
+        while n > 0 {
+            n -= 1;
+            if let Some(register) = self.mshrs.at(n) {
+                if read_at(&self.mshrs, &self.pool, register, p) {
+                    return true;
+                }
+            }
+        }
         false
     }
+}
+
+/// Answers a read without time, if a write-back that waits in the register of a key covers its address: the newest does.
+fn read_at(mshrs: &Mshrs, pool: &Pool, register: usize, p: &mut Packet) -> bool
+    requires sound { AreSound mshrs.now }
+    requires most { mshrs.now.places ≤ most_targets }
+    requires known { IsTrue (is_open register mshrs.now.used) }
+    requires bytes { All MayPass (packets_at pool.now mshrs.now register) }
+    requires size { MayPass p.old }
+    ensures answered { result ≡ is_some (newest_bytes (packets_at pool.now mshrs.now register) p.old.addr p.old.size) }
+    ensures packet { p.new ≡ read_of p.old (newest_bytes (packets_at pool.now mshrs.now register) p.old.addr p.old.size) }
+{
+    let mut n = TARGETS_MAX;
+    while n > 0 {
+        n -= 1;
+        if let Some(key) = mshrs.target(register, n) {
+            if let Some(held) = pool.get(key) {
+                if covers(held, p.addr) {
+                    answer(p, held);
+                    return true;
+                }
+            }
+        }
+    }
+    false
+}
+
+/// Whether a packet is a write-back of bytes among which the address is.
+fn covers(held: &Packet, addr: u64) -> bool
+    ensures { result ≡ covers held.now addr }
+{
+    held.is_write_back() && held.addr <= addr && addr - held.addr < held.size as u64
+}
+
+/// Answers a read by what a write-back that covers its address carries.
+#[tactic(auto, using(std::proofs::lemmas::List::take_min))]
+fn answer(p: &mut Packet, held: &Packet)
+    requires size { MayPass p.old }
+    requires bytes { MayPass held.now }
+    requires covers { IsTrue (covers held.now p.old.addr) }
+    ensures { p.new ≡ read_response p.old (take p.old.size (drop (p.old.addr - held.now.addr) (carried_bytes held.now))) }
+{
+    let from = (p.addr - held.addr) as usize;
+    let rest = &held.bytes[..held.size as usize][from..];
+    let count = (p.size as usize).min(rest.len());
+    p.answer(&rest[..count]);
 }
