@@ -161,13 +161,16 @@ calling m = calling_in m.cache.waiter (is_blocked m.cache) m
 
 -- Requests from above.
 
--- a request lies in a line
+-- a request lies in a line of so many bytes
+abbrev pub fits : ℕ → Packet → Cmd → Bool
+fits line x cmds.Read = nat_le (x.addr % line + x.size) line
+fits line x cmds.Write = nat_le (x.addr % line + length (carried_bytes x)) line
+fits line x cmds.WriteBack = (x.addr % line == 0) && (length (carried_bytes x) == line)
+fits line x cmds.ReadResp = false
+fits line x cmds.WriteResp = false
+
 abbrev pub lies_in : CacheState → Packet → Cmd → Bool
-lies_in s x cmds.Read = nat_le (x.addr % s.common.line + x.size) s.common.line
-lies_in s x cmds.Write = nat_le (x.addr % s.common.line + length (carried_bytes x)) s.common.line
-lies_in s x cmds.WriteBack = (x.addr % s.common.line == 0) && (length (carried_bytes x) == s.common.line)
-lies_in s x cmds.ReadResp = false
-lies_in s x cmds.WriteResp = false
+lies_in s x cmd = fits s.common.line x cmd
 
 -- it is one of memory, and lies in a line
 abbrev pub is_cached : CacheState → Packet → Bool
