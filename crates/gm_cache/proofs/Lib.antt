@@ -1,3 +1,5 @@
 pub mod SetLemmas
 pub mod QueueLemmas
 pub mod RegisterLemmas
+pub mod Coming
+pub mod Serving
