@@ -3,3 +3,5 @@ pub mod QueueLemmas
 pub mod RegisterLemmas
 pub mod Coming
 pub mod Serving
+pub mod Parts
+pub mod Wakes
