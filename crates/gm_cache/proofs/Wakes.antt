@@ -306,7 +306,7 @@ wakes_move_lines s next w now ok = by w where
 -- The start.
 
 some_bytes : (n : ℕ) → IsTrue ((n == 16) || (n == 32) || (n == 64)) → 0 < n
-some_bytes zero h = absurd h
+some_bytes zero h = absurd (cc h)
 some_bytes (suc n) h = omega arith
 
 nothing_at : (n i : ℕ) → ◌≡◌ {A = List Line} (get_or (replicate n []) i []) []
