@@ -4,7 +4,7 @@ use Rattle.std.proofs.lemmas.Bool.{cases_eq}
 use Rattle.cache_tags.specs.Line.{Line, leaving_line}
 use Rattle.gm_cache.specs.State.{CacheState, Register, set_of, set_at, with_set, find_line, find_register, line_in, leaving_outlet}
 use Rattle.gm_cache.specs.Rule.{backs, CacheMoved, line_request, requesting, evicting, installing}
-use Rattle.gm_cache.specs.Lines.{LineState, Request, Back, LineView, line_view, requests, requests_in, line_state, state_in, view_of, AreLines, IsLineOf, HasSets, AreApart, Moves, Stay, LeaveDirty, LeaveClean}
+use Rattle.gm_cache.specs.Lines.{LineState, Request, Back, line_view, requests, requests_in, line_state, state_in, view_of, AreLines, IsLineOf, HasSets, AreApart, Moves, Stay, LeaveDirty, LeaveClean}
 use Rattle.gm_cache.proofs.SetLemmas.{set_below, set_same, set_other, find_here, find_past, find_front, last_apart, find_last, not_first, none_front, none_later, some_front, lines_front, lines_later, leavers, stays_leaves}
 use Rattle.gm_cache.proofs.QueueLemmas.{requests-put, backs-put, own_back, own_other}
 use Rattle.gm_words.specs.Flow.{Flow}

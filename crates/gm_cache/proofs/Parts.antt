@@ -3,8 +3,8 @@ use Rattle.std.proofs.Common.{◌≡◌, ℕ, ◌+◌, ◌-◌, ◌%◌, ◌≤�
 use Rattle.std.specs.Prelude.{nat_le, nat_lt}
 use Rattle.std.proofs.lemmas.Bool.{cases_eq, leb-false}
 use Rattle.cache_tags.specs.Line.{Line}
-use Rattle.gm_cache.specs.State.{CacheState, Register, set_of, set_at, find_line, find_register, line_in, without_register, joined, leaving_outlet}
-use Rattle.gm_cache.specs.Rule.{backs, has_full, is_blocked, is_cached, line_after, CacheMoved, noting, line_request, requesting, installing, serving_in, serving_all, with_registers, sending_below, sending_above, above_moved, below_moved}
+use Rattle.gm_cache.specs.State.{CacheState, Register, set_of, find_register, line_in, without_register, joined, leaving_outlet}
+use Rattle.gm_cache.specs.Rule.{backs, has_full, is_blocked, is_cached, line_after, CacheMoved, noting, line_request, requesting, installing, serving_in, serving_all, with_registers, sending_below, above_moved, below_moved}
 use Rattle.gm_cache.specs.Lines.{Filling, Request, ReadLine, LineView, line_view, requests, requests_in, line_state, state_in, view_of, IsLineOf, HasSets, IsTarget, AreTargets, AreRegisters, HasRegisters, AreApart, HasTags, Moves, Stay, Lifts, KeepsLines, noted_by, line_after_all, noted_by_all}
 use Rattle.gm_cache.proofs.QueueLemmas.{requests-put, backs-put, one_back, requests_none, own_read, own_other}
 use Rattle.gm_cache.proofs.RegisterLemmas.{state_joined, register-append, register_added, register_without, gone_register, registers_without, length-without_register, length-joined, joined_none, registers_joined, registers_added}

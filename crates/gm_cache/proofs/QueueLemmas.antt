@@ -1,11 +1,10 @@
 -- Where lines begin, and how what a queue asks of a line changes.
-use Rattle.std.proofs.Common.{◌≡◌, ℕ, zero, suc, ◌+◌, ◌-◌, ◌*◌, ◌/◌, ◌%◌, ◌<◌, ◌≤◌, ◌&&◌, not, Bool, true, false, if◌then◌else◌, List, [], ◌∷◌, ◌++◌, length, drop, replicate, refl, sym, ◌∙◌, ap, arith, eq-eqb, ne_eqb, ◌==◌, append_assoc, append-nil, take_at}
-use Rattle.std.specs.Prelude.{nat_le}
+use Rattle.std.proofs.Common.{◌≡◌, ℕ, ◌+◌, ◌-◌, ◌*◌, ◌/◌, ◌%◌, ◌<◌, ◌≤◌, ◌&&◌, Bool, true, false, if◌then◌else◌, List, [], ◌∷◌, ◌++◌, length, drop, replicate, refl, sym, ◌∙◌, ap, arith, eq-eqb, ne_eqb, ◌==◌, append_assoc, append-nil, take_at}
 use Rattle.std.proofs.lemmas.Bool.{le-leb, and_from}
 use Rattle.std.proofs.lemmas.Nat.{div-add-mod', mod-mul-add}
 use Rattle.gm_cache.specs.State.{CacheState, base_of}
 use Rattle.gm_cache.specs.Rule.{back_bit, backs, is_cached, line_request}
-use Rattle.gm_cache.specs.Lines.{Request, ReadLine, Back, request_of, requests_in, requests}
+use Rattle.gm_cache.specs.Lines.{ReadLine, Back, request_of, requests_in, requests}
 use Rattle.gm_model.specs.Flows.{Outlet, put_in, ask_in, hold_in, again_in, gone_in}
 use Rattle.gm_words.specs.Flow.{Queued, OutState, Quiet, Due, Asked, Waits}
 use Rattle.pkt_pool.specs.Packet.{carried_bytes}

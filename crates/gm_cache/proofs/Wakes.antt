@@ -1,12 +1,12 @@
 -- What each wake of a cache does to each line, and that it keeps what holds of the lines and registers.
-use Rattle.std.proofs.Common.{◌≡◌, ℕ, zero, suc, ◌+◌, ◌%◌, ◌<◌, ◌≤◌, ◌==◌, ◌&&◌, ◌||◌, not, ◌⊎◌, Bool, true, false, List, [], ◌∷◌, ◌++◌, length, get_or, replicate, Option, Some, None, refl, sym, ◌∙◌, ap, subst, arith}
+use Rattle.std.proofs.Common.{◌≡◌, ℕ, zero, suc, ◌+◌, ◌%◌, ◌<◌, ◌≤◌, ◌==◌, ◌&&◌, ◌||◌, not, Bool, true, false, List, [], ◌∷◌, ◌++◌, length, get_or, replicate, Option, Some, None, refl, sym, ◌∙◌, ap, subst, arith}
 use Rattle.std.specs.Prelude.{IsTrue, is_some}
 use Rattle.std.proofs.lemmas.Bool.{and_parts, eqb-true}
 use Rattle.std.proofs.lemmas.List.{length-replicate}
 use Rattle.cache_tags.specs.Line.{Line, new_line}
 use Rattle.gm_cache.specs.State.{CacheState, Register, cache_start, base_of, set_of, set_at, find_line, line_in, find_register, joined, leaving_outlet, answers_outlet, above, below}
 use Rattle.gm_cache.specs.Rule.{backs, is_blocked, is_cached, lies_in, is_fill, line_after, CacheMoved, begun, noting, above_moved, below_moved, sending_below, sending_above, requesting, installing, absorbing, serving_in, with_registers, calling_in, calling, access_in, back_in, cached_in, taking, filling, fill_in, returning, from_above, next_ready, later, port_moved, sent_in, cache_step}
-use Rattle.gm_cache.specs.Lines.{Absent, Filling, Dirty, LineView, line_view, requests, requests_in, line_state, state_in, view_of, IsLineOf, AreLines, HasSets, HasRegisters, IsTarget, AreTargets, HasTags, Moves, Lifts, KeepsLines, Keeps, is_access, noted_by, FromAbove, Denies, Passes, Hits, Joins, Opens, Replaces, BackJoins, FromBelow, is_awaited, Returns, FillsLine, WithoutHead, SendsHead, MovesLines, OfferMoves, IsFresh, StartsWithTags, WakesKeepTags, WakesMoveLines}
+use Rattle.gm_cache.specs.Lines.{Absent, Filling, Dirty, LineView, line_view, requests, requests_in, line_state, state_in, view_of, IsLineOf, AreLines, IsTarget, AreTargets, HasTags, Moves, Lifts, KeepsLines, Keeps, is_access, noted_by, FromAbove, Denies, Passes, Hits, Joins, Opens, Replaces, BackJoins, FromBelow, is_awaited, Returns, FillsLine, WithoutHead, SendsHead, MovesLines, StartsWithTags, WakesKeepTags, WakesMoveLines}
 use Rattle.gm_cache.proofs.SetLemmas.{found_line, line_facts}
 use Rattle.gm_cache.proofs.QueueLemmas.{base_multiple, requests-gone, backs-gone, ask_same, hold_same, again_same}
 use Rattle.gm_cache.proofs.RegisterLemmas.{found_register, register_facts}
@@ -14,12 +14,10 @@ use Rattle.gm_cache.proofs.Coming.{sets_rest}
 use Rattle.gm_cache.proofs.Serving.{fits_of, after_back, back_whole}
 use Rattle.gm_cache.proofs.Parts.{HasRoom, room_of, registers_rest, Does, Leaves, does_serve, does_join, does_open, does_install, does_fill, closed, line_absent, leaves_send, leaves_above, leaves_below, below_tags}
 use Rattle.gm_model.specs.Flows.{Moved, put_in, ask_in, hold_in, again_in, gone_in}
-use Rattle.gm_words.specs.Allowed.{IsAllowed}
 use Rattle.gm_words.specs.Flow.{Queued, OutState}
 use Rattle.gm_words.specs.Moves.{Moves as Told, no_moves}
 use Rattle.gm_words.specs.declared.entry.Entry.{Entry}
 use Rattle.gm_words.specs.declared.entry.Entry.TheVariants as entries
-use Rattle.gm_words.specs.declared.params.Params.{Params}
 use Rattle.gm_words.specs.declared.wake.Wake.{Wake}
 use Rattle.gm_words.specs.declared.wake.Wake.TheVariants as wakes
 use Rattle.pkt_pool.specs.Packet.{carried_bytes}
