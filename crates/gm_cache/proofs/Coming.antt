@@ -26,12 +26,15 @@ sets_with s b ls ok lines few =
       by : (P : List Line → Type 0) (i : ℕ) → (set_of s b ≡ i → P ls) → P (get_or s.lines i []) → P (get_or (set s.lines (set_of s b) ls) i [])
       by P i here else_ = cases (cases_eq i (set_of s b)) where
         cases : (i ≡ set_of s b) ⊎ (i ≡ set_of s b → ⊥) → P (get_or (set s.lines (set_of s b) ls) i [])
-        cases (inl e) = subst P (sym (ap (λ j. get_or (set s.lines (set_of s b) ls) j []) e ∙ get_or-set_same s.lines (set_of s b) ls [] (set_below s ok b))) (here (sym e))
+        cases (inl e) = subst P (sym (ap (λ j. get_or (set s.lines (set_of s b) ls) j []) e ∙ get_or-set_same s.lines (set_of s b) ls [] (set_below s ok b)))
+            (here (sym e))
         cases (inr n) = subst P (sym (get_or-set_other s.lines (set_of s b) i ls [] n)) else_
 
 -- sets, whatever the registers and queues are
-pub sets_rest : (s : CacheState) (rs : List Register) (f g : Flow) (w : Bool) → HasSets s → HasSets (record s { registers = rs; answers = f; leaving = g; waiter = w })
-sets_rest s rs f g w ok = record { some_bytes = ok.some_bytes; some_sets = ok.some_sets; some_ways = ok.some_ways; count = ok.count; each = ok.each; few = ok.few }
+pub sets_rest : (s : CacheState) (rs : List Register) (f g : Flow) (w : Bool) → HasSets s
+    → HasSets (record s { registers = rs; answers = f; leaving = g; waiter = w })
+sets_rest s rs f g w ok =
+    record { some_bytes = ok.some_bytes; some_sets = ok.some_sets; some_ways = ok.some_ways; count = ok.count; each = ok.each; few = ok.few }
 
 -- What a line that leaves sends.
 
@@ -49,12 +52,15 @@ evicting_sends now (Some v) m i a w = by v.dirty (cases_eq v.address a) where
       ≡ requests m.cache a m.cache.leaving.items ++ (if b then (if v.address == a then Back v.bytes ∷ [] else []) else [])
   by false c = sym (append-nil (requests m.cache a m.cache.leaving.items))
   by true (inl e) =
-      requests-put m.cache a leaving_outlet (line_request m.cache m.next cmds.WriteBack v.address v.bytes) (now + m.cache.latency) m.cache.leaving.items m.cache.leaving.out
+      requests-put m.cache a leaving_outlet (line_request m.cache m.next cmds.WriteBack v.address v.bytes)
+      (now + m.cache.latency) m.cache.leaving.items m.cache.leaving.out
       ∙ ap (λ r. requests m.cache a m.cache.leaving.items ++ r)
-      (subst (λ c. requests_in m.cache c (line_request m.cache m.next cmds.WriteBack v.address v.bytes) ≡ Back v.bytes ∷ []) e (own_back m.cache m.next v.address v.bytes w.0.1 w.0.2)
+      (subst (λ c. requests_in m.cache c (line_request m.cache m.next cmds.WriteBack v.address v.bytes) ≡ Back v.bytes ∷ []) e
+      (own_back m.cache m.next v.address v.bytes w.0.1 w.0.2)
       ∙ sym (ap (λ b. if b then Back v.bytes ∷ [] else []) (eq-eqb v.address a e)))
   by true (inr e) =
-      requests-put m.cache a leaving_outlet (line_request m.cache m.next cmds.WriteBack v.address v.bytes) (now + m.cache.latency) m.cache.leaving.items m.cache.leaving.out
+      requests-put m.cache a leaving_outlet (line_request m.cache m.next cmds.WriteBack v.address v.bytes)
+      (now + m.cache.latency) m.cache.leaving.items m.cache.leaving.out
       ∙ ap (λ r. requests m.cache a m.cache.leaving.items ++ r)
       (own_other m.cache a m.next cmds.WriteBack v.address v.bytes w.0.1 e ∙ sym (ap (λ b. if b then Back v.bytes ∷ [] else []) (ne_eqb v.address a e)))
 
@@ -62,7 +68,8 @@ evicting_sends now (Some v) m i a w = by v.dirty (cases_eq v.address a) where
 pub evicting_cache : (now : ℕ) (o : Option Line) (m : CacheMoved) → (evicting o now m).cache ≡ record m.cache { leaving = (evicting o now m).cache.leaving }
 evicting_cache now None m = refl
 evicting_cache now (Some v) m = by v.dirty where
-  by : (b : Bool) → (let k : CacheMoved = if b then requesting cmds.WriteBack v.address v.bytes now m else m in k.cache ≡ record m.cache { leaving = k.cache.leaving })
+  by : (b : Bool)
+      → (let k : CacheMoved = if b then requesting cmds.WriteBack v.address v.bytes now m else m in k.cache ≡ record m.cache { leaving = k.cache.leaving })
   by true = refl
   by false = refl
 
@@ -73,7 +80,8 @@ evicting_backs now (Some v) m = by v.dirty where
   by : (b : Bool) → backs (if b then requesting cmds.WriteBack v.address v.bytes now m else m).cache.leaving.items ≤ backs m.cache.leaving.items + 1
   by false = omega arith
   by true =
-      omega (arith, backs-put leaving_outlet (line_request m.cache m.next cmds.WriteBack v.address v.bytes) (now + m.cache.latency) m.cache.leaving.items m.cache.leaving.out)
+      omega (arith, backs-put leaving_outlet (line_request m.cache m.next cmds.WriteBack v.address v.bytes)
+      (now + m.cache.latency) m.cache.leaving.items m.cache.leaving.out)
 
 pub evicting_entries : (now : ℕ) (o : Option Line) (m : CacheMoved) → (evicting o now m).entries ≡ m.entries
 evicting_entries now None m = refl
@@ -93,7 +101,8 @@ stay_view : (line line' : LineState) (sent sent' : List Request) → line' ≡ l
 stay_view line line' sent sent' e f = Stay (rw (e, f) refl)
 
 -- of a set's lines the last one leaves: a line of the set stays, or it is the one that leaves
-parts_move : (s : CacheState) (i : ℕ) (front : List Line) (o : Option Line) (a : ℕ) (reg : Option Register) (sent : List Request) → AreLines s i (front ++ leavers o)
+parts_move : (s : CacheState) (i : ℕ) (front : List Line) (o : Option Line) (a : ℕ) (reg : Option Register) (sent : List Request)
+    → AreLines s i (front ++ leavers o)
     → ((l : Line) → find_line a (front ++ leavers o) ≡ Some l → reg ≡ None)
     → Moves (line_view (state_in (find_line a (front ++ leavers o)) reg) sent) (line_view (state_in (find_line a front) reg) (sent ++ evicted a o))
 parts_move s i front None a reg sent ok apart =
@@ -141,10 +150,12 @@ split_lines l s ok = subst (λ ls. AreLines s (set_of s l.address) ls) (sym (spl
 
 pub installing_view : (l : Line) (now : ℕ) (m : CacheMoved) (a : ℕ) → HasSets m.cache
     → view_of (installing l now m).cache a
-    ≡ line_view (state_in (find_line a (set_at (with_line l m.cache) a)) (find_register a m.cache.registers)) (requests m.cache a m.cache.leaving.items ++ evicted a (victim_of l m.cache))
+    ≡ line_view (state_in (find_line a (set_at (with_line l m.cache) a)) (find_register a m.cache.registers))
+    (requests m.cache a m.cache.leaving.items ++ evicted a (victim_of l m.cache))
 unfolding view_of
 installing_view l now m a ok =
-    ap (λ (c : CacheState). line_view (state_in (find_line a (set_at c a)) (find_register a c.registers)) (requests c a (installing l now m).cache.leaving.items))
+    ap (λ (c : CacheState). line_view (state_in (find_line a (set_at c a)) (find_register a c.registers))
+    (requests c a (installing l now m).cache.leaving.items))
     (evicting_cache now (victim_of l m.cache) (came_in l m))
     ∙ ap (line_view (state_in (find_line a (set_at (with_line l m.cache) a)) (find_register a m.cache.registers)))
     (evicting_sends now (victim_of l m.cache) (came_in l m) (set_of m.cache l.address) a
@@ -164,14 +175,17 @@ installs l now m ok apart none = record { own = own; other = other } where
   not_victim : (v : Line) → victim_of l m.cache ≡ Some v → v.address ≡ l.address → ⊥
   not_victim v e f =
       not_first l.address v [] (subst (λ o. find_line l.address (leavers o) ≡ None) e
-      (none_later l.address (stays_of l m.cache) (leavers (victim_of l m.cache)) (subst (λ ls. find_line l.address ls ≡ None) (sym (split l m.cache ok)) none))) f
+      (none_later l.address (stays_of l m.cache) (leavers (victim_of l m.cache))
+      (subst (λ ls. find_line l.address ls ≡ None) (sym (split l m.cache ok)) none))) f
 
   own : view_of (installing l now m).cache l.address ≡ line_view (line_state l) (requests m.cache l.address m.cache.leaving.items)
   own =
       installing_view l now m l.address ok
-      ∙ (ap (λ ls. line_view (state_in (find_line l.address ls) (find_register l.address m.cache.registers)) (requests m.cache l.address m.cache.leaving.items ++ evicted l.address (victim_of l m.cache)))
+      ∙ (ap (λ ls. line_view (state_in (find_line l.address ls) (find_register l.address m.cache.registers))
+      (requests m.cache l.address m.cache.leaving.items ++ evicted l.address (victim_of l m.cache)))
       (set_same m.cache ok l.address (l ∷ stays_of l m.cache) l.address refl)
-      ∙ (ap (λ o. line_view (state_in o (find_register l.address m.cache.registers)) (requests m.cache l.address m.cache.leaving.items ++ evicted l.address (victim_of l m.cache)))
+      ∙ (ap (λ o. line_view (state_in o (find_register l.address m.cache.registers))
+      (requests m.cache l.address m.cache.leaving.items ++ evicted l.address (victim_of l m.cache)))
       (find_here l.address l (stays_of l m.cache) refl)
       ∙ ap (line_view (line_state l))
       (ap (λ r. requests m.cache l.address m.cache.leaving.items ++ r) (evicted_none l.address (victim_of l m.cache) not_victim)
@@ -194,29 +208,35 @@ installs l now m ok apart none = record { own = own; other = other } where
       (line_view (state_in (find_line a (set_at (with_line l m.cache) a)) (find_register a m.cache.registers))
       (requests m.cache a m.cache.leaving.items ++ evicted a (victim_of l m.cache)))
   in_set a n (inl e) =
-      let p = parts_move m.cache (set_of m.cache l.address) (stays_of l m.cache) (victim_of l m.cache) a (find_register a m.cache.registers) (requests m.cache a m.cache.leaving.items) lines
+      let p = parts_move m.cache (set_of m.cache l.address) (stays_of l m.cache) (victim_of l m.cache) a (find_register a m.cache.registers)
+          (requests m.cache a m.cache.leaving.items) lines
       (apart_victim a e) in
-      let before : stays_of l m.cache ++ leavers (victim_of l m.cache) ≡ set_at m.cache a = split l m.cache ok ∙ sym (ap (λ i. slice_index_or m.cache.lines i []) e) in
+      let before : stays_of l m.cache ++ leavers (victim_of l m.cache) ≡ set_at m.cache a =
+      split l m.cache ok ∙ sym (ap (λ i. slice_index_or m.cache.lines i []) e) in
       let after : find_line a (stays_of l m.cache) ≡ find_line a (set_at (with_line l m.cache) a) =
       sym (ap (find_line a) (set_same m.cache ok l.address (l ∷ stays_of l m.cache) a e) ∙ find_past a l (stays_of l m.cache) n) in
       subst (λ ls. Moves (line_view (state_in (find_line a ls) (find_register a m.cache.registers)) (requests m.cache a m.cache.leaving.items))
       (line_view (state_in (find_line a (set_at (with_line l m.cache) a)) (find_register a m.cache.registers))
       (requests m.cache a m.cache.leaving.items ++ evicted a (victim_of l m.cache)))) before
-      (subst (λ o. Moves (line_view (state_in (find_line a (stays_of l m.cache ++ leavers (victim_of l m.cache))) (find_register a m.cache.registers)) (requests m.cache a m.cache.leaving.items))
+      (subst (λ o. Moves (line_view (state_in (find_line a (stays_of l m.cache ++ leavers (victim_of l m.cache))) (find_register a m.cache.registers))
+      (requests m.cache a m.cache.leaving.items))
       (line_view (state_in o (find_register a m.cache.registers)) (requests m.cache a m.cache.leaving.items ++ evicted a (victim_of l m.cache)))) after p)
   in_set a n (inr e) =
       stay_view (state_in (find_line a (set_at m.cache a)) (find_register a m.cache.registers))
       (state_in (find_line a (set_at (with_line l m.cache) a)) (find_register a m.cache.registers)) (requests m.cache a m.cache.leaving.items)
       (requests m.cache a m.cache.leaving.items ++ evicted a (victim_of l m.cache))
       (ap (λ ls. state_in (find_line a ls) (find_register a m.cache.registers)) (set_other m.cache ok l.address (l ∷ stays_of l m.cache) a e))
-      (ap (λ r. requests m.cache a m.cache.leaving.items ++ r) (evicted_none a (victim_of l m.cache) (other_set a e)) ∙ append-nil (requests m.cache a m.cache.leaving.items))
+      (ap (λ r. requests m.cache a m.cache.leaving.items ++ r) (evicted_none a (victim_of l m.cache) (other_set a e))
+      ∙ append-nil (requests m.cache a m.cache.leaving.items))
 
   other : (a : ℕ) → (l.address ≡ a → ⊥) → Moves (view_of m.cache a) (view_of (installing l now m).cache a)
-  other a n = subst (λ x. Moves (view_of m.cache a) x) (sym (installing_view l now m a ok)) (in_set a n (cases_eq (set_of m.cache a) (set_of m.cache l.address)))
+  other a n = subst (λ x. Moves (view_of m.cache a) x) (sym (installing_view l now m a ok))
+      (in_set a n (cases_eq (set_of m.cache a) (set_of m.cache l.address)))
 
 -- It keeps what holds of the lines.
 
-module _ (l : Line) (now : ℕ) (m : CacheMoved) (ok : HasSets m.cache) (none : line_in m.cache l.address ≡ None) (is : IsLineOf m.cache (set_of m.cache l.address) l) where
+module _ (l : Line) (now : ℕ) (m : CacheMoved) (ok : HasSets m.cache) (none : line_in m.cache l.address ≡ None)
+    (is : IsLineOf m.cache (set_of m.cache l.address) l) where
   pub installs_cache : (installing l now m).cache ≡ (let s : CacheState = record (with_line l m.cache) { leaving = (installing l now m).cache.leaving } in s)
   installs_cache = evicting_cache now (victim_of l m.cache) (came_in l m)
 
@@ -247,6 +267,7 @@ module _ (l : Line) (now : ℕ) (m : CacheMoved) (ok : HasSets m.cache) (none : 
         (sym (find_past a l (stays_of l m.cache) n) ∙ (sym (ap (find_line a) (set_same m.cache ok l.address (l ∷ stays_of l m.cache) a e)) ∙ h)))
     old a k n h (inr e) = sym (ap (find_line a) (set_other m.cache ok l.address (l ∷ stays_of l m.cache) a e)) ∙ h
 
-    by : (a : ℕ) (k : Line) → find_line a (set_at (with_line l m.cache) a) ≡ Some k → (l.address ≡ a) ⊎ (l.address ≡ a → ⊥) → find_register a m.cache.registers ≡ None
+    by : (a : ℕ) (k : Line) → find_line a (set_at (with_line l m.cache) a) ≡ Some k → (l.address ≡ a) ⊎ (l.address ≡ a → ⊥)
+        → find_register a m.cache.registers ≡ None
     by a k h (inl e) = subst (λ b. find_register b m.cache.registers ≡ None) e free
     by a k h (inr n) = apart a k (old a k n h (cases_eq (set_of m.cache a) (set_of m.cache l.address)))

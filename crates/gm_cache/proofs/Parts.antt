@@ -27,7 +27,8 @@ pub record HasRoom (s : CacheState) : Type 0 where
 pub room_of : (s : CacheState) → is_blocked s ≡ false → HasRoom s
 unfolding is_blocked
 room_of s e =
-    by (nat_le s.mshrs (length s.registers)) (has_full s.targets s.registers) (nat_lt (s.writeq - backs s.leaving.items) (length s.registers + 1)) refl refl refl e where
+    by (nat_le s.mshrs (length s.registers)) (has_full s.targets s.registers)
+    (nat_lt (s.writeq - backs s.leaving.items) (length s.registers + 1)) refl refl refl e where
       by : (r f p : Bool) → nat_le s.mshrs (length s.registers) ≡ r → has_full s.targets s.registers ≡ f
           → nat_lt (s.writeq - backs s.leaving.items) (length s.registers + 1) ≡ p → (r || f || p) ≡ false → HasRoom s
       by false false false er ef ep h =
@@ -41,7 +42,8 @@ room_of s e =
       by true f p er ef ep h = absurd (cc h)
 
 -- facts on registers that hang on nothing else
-pub registers_rest : (s : CacheState) (ls : List (List Line)) (f : Flow) (w : Bool) → HasRegisters s → HasRegisters (record s { lines = ls; answers = f; waiter = w })
+pub registers_rest : (s : CacheState) (ls : List (List Line)) (f : Flow) (w : Bool) → HasRegisters s
+    → HasRegisters (record s { lines = ls; answers = f; waiter = w })
 registers_rest s ls f w ok = record { some_targets = ok.some_targets; each = ok.each; used = ok.used; places = ok.places }
 
 -- what a part of a wake does to the packet's line, to the others, to what holds of the tags, and what it notes
@@ -59,7 +61,8 @@ pub record Leaves (m t : CacheMoved) : Type 0 where
 -- the line is there: it serves the request
 pub does_serve : (m : CacheMoved) (l : Line) (x : Packet) (now : ℕ) (es : List Entry) → HasTags m.cache → line_in m.cache l.address ≡ Some l
     → IsTarget m.cache l.address x
-    → Does m l.address (line_view (line_state (line_after l x x.cmd)) (view_of m.cache l.address).sent) (es ++ noted_by l x x.cmd) (serving_in (Some l) x now (noting es m))
+    → Does m l.address (line_view (line_state (line_after l x x.cmd)) (view_of m.cache l.address).sent) (es ++ noted_by l x x.cmd)
+    (serving_in (Some l) x now (noting es m))
 does_serve m l x now es ok there fits =
     let k = serves_line (noting es m) l x x.cmd now ok.sets ok.apart there (fits_of m.cache l.address x fits) in
     record {
@@ -67,7 +70,8 @@ does_serve m l x now es ok there fits =
       ok = record {
         sets = k.sets;
         registers = subst HasRegisters (sym k.rest)
-            (registers_rest m.cache (serving_in (Some l) x now (noting es m)).cache.lines (serving_in (Some l) x now (noting es m)).cache.answers m.cache.waiter ok.registers);
+            (registers_rest m.cache (serving_in (Some l) x now (noting es m)).cache.lines
+            (serving_in (Some l) x now (noting es m)).cache.answers m.cache.waiter ok.registers);
         apart = k.apart;
       };
       entries = k.entries ∙ append_assoc m.entries es (noted_by l x x.cmd);
@@ -152,7 +156,8 @@ does_open m b x now es ok room none free multiple fits =
       other a n =
           ap (λ o. line_view (state_in (line_in m.cache a) o) (sent a)) (register-append a m.cache.registers opened n)
           ∙ ap (line_view (state_in (line_in m.cache a) (find_register a m.cache.registers)))
-          (asked a ∙ (ap (λ q. requests m.cache a m.cache.leaving.items ++ q) (own_other m.cache a m.next cmds.Read b [] multiple n) ∙ append-nil (requests m.cache a m.cache.leaving.items)))
+          (asked a ∙ (ap (λ q. requests m.cache a m.cache.leaving.items ++ q) (own_other m.cache a m.next cmds.Read b [] multiple n)
+          ∙ append-nil (requests m.cache a m.cache.leaving.items)))
 
       apart : (a : ℕ) (l : Line) → line_in m.cache a ≡ Some l → (b ≡ a) ⊎ (b ≡ a → ⊥) → find_register a (m.cache.registers ++ opened ∷ []) ≡ None
       apart a l h (inl e) = absurd (cc (sym h ∙ subst (λ c. line_in m.cache c ≡ None) e none))
@@ -211,13 +216,15 @@ does_fill m l r now told ok there is fits =
     let c : CacheMoved = closed l.address told m in
     let sets : HasSets c.cache = sets_rest m.cache (without_register l.address m.cache.registers) m.cache.answers m.cache.leaving m.cache.waiter ok.sets in
     let none : line_in m.cache l.address ≡ None = line_absent m.cache l.address r ok.apart there in
-    let free : find_register l.address (without_register l.address m.cache.registers) ≡ None = gone_register m.cache l.address m.cache.registers ok.registers.each in
+    let free : find_register l.address (without_register l.address m.cache.registers) ≡ None =
+    gone_register m.cache l.address m.cache.registers ok.registers.each in
     let fewer = length-without_register l.address m.cache.registers r there in
     let tags = installs_tags c l now sets apart_closed ok.registers.some_targets (registers_without m.cache l.address m.cache.registers ok.registers.each)
     (omega (arith, fewer, ok.registers.used)) (omega (arith, fewer, ok.registers.places)) none free is in
     let i = installs l now c sets apart_closed none in
     let t = installing l now c in
-    let targets : AreTargets t.cache l.address r.targets = subst (λ (s : CacheState). AreTargets s l.address r.targets) (sym (installs_cache l now c sets none is)) fits in
+    let targets : AreTargets t.cache l.address r.targets =
+    subst (λ (s : CacheState). AreTargets s l.address r.targets) (sym (installs_cache l now c sets none is)) fits in
     let k = serves_all t l r.targets now tags.sets tags.apart (installs_found l now c sets none is) targets in
     record {
       lifts = record {
@@ -227,7 +234,8 @@ does_fill m l r now told ok there is fits =
       ok = record {
         sets = k.sets;
         registers = subst HasRegisters (sym k.rest)
-            (registers_rest t.cache (serving_all l.address r.targets now t).cache.lines (serving_all l.address r.targets now t).cache.answers t.cache.waiter tags.registers);
+            (registers_rest t.cache (serving_all l.address r.targets now t).cache.lines
+            (serving_all l.address r.targets now t).cache.answers t.cache.waiter tags.registers);
         apart = k.apart;
       };
       entries = k.entries ∙ ap (λ es. es ++ noted_by_all l r.targets) (evicting_entries now (victim_of l c.cache) (came_in l c));
@@ -238,7 +246,8 @@ does_fill m l r now told ok there is fits =
       same : (a : ℕ) → (l.address ≡ a → ⊥)
           → line_view (state_in (line_in m.cache a) (find_register a (without_register l.address m.cache.registers))) (requests m.cache a m.cache.leaving.items)
           ≡ line_view (state_in (line_in m.cache a) (find_register a m.cache.registers)) (requests m.cache a m.cache.leaving.items)
-      same a n = ap (λ o. line_view (state_in (line_in m.cache a) o) (requests m.cache a m.cache.leaving.items)) (register_without a l.address m.cache.registers n)
+      same a n = ap (λ o. line_view (state_in (line_in m.cache a) o) (requests m.cache a m.cache.leaving.items))
+          (register_without a l.address m.cache.registers n)
 
 -- Parts that change no line.
 
@@ -284,7 +293,12 @@ pub below_tags : (m : CacheMoved) (f : Moved) → backs f.flow.items ≤ backs m
 below_tags m f few ok =
     record {
       sets = sets_rest m.cache m.cache.registers m.cache.answers f.flow m.cache.waiter ok.sets;
-      registers = record { some_targets = ok.registers.some_targets; each = ok.registers.each; used = ok.registers.used; places = omega (arith, few, ok.registers.places) };
+      registers = record {
+        some_targets = ok.registers.some_targets;
+        each = ok.registers.each;
+        used = ok.registers.used;
+        places = omega (arith, few, ok.registers.places);
+      };
       apart = ok.apart;
     }
 

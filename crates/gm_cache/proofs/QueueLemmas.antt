@@ -42,7 +42,8 @@ requests_other s a x n =
 -- Own requests.
 
 -- the bytes of an own request of a whole line
-pub carried_own : (s : CacheState) (n : ℕ) (cmd : Cmd) (b : ℕ) (bytes : List ℕ) → length bytes ≡ s.common.line → carried_bytes (line_request s n cmd b bytes) ≡ bytes
+pub carried_own : (s : CacheState) (n : ℕ) (cmd : Cmd) (b : ℕ) (bytes : List ℕ) → length bytes ≡ s.common.line
+    → carried_bytes (line_request s n cmd b bytes) ≡ bytes
 carried_own s n cmd b bytes e = take_at bytes (drop (length bytes) (replicate 64 0)) s.common.line e
 
 pub cached_read : (s : CacheState) (n b : ℕ) (bytes : List ℕ) → b % s.common.line ≡ 0 → is_cached s (line_request s n cmds.Read b bytes) ≡ true

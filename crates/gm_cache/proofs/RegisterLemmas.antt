@@ -23,12 +23,15 @@ found_register a (k ∷ ks) r e = by (found_register a ks r) (cases_eq k.address
   by more (inr f) h = more (rw (ne_eqb k.address a f) at h)
 
 -- one more target changes no line's state
-pub state_joined : (o : Option Line) (a b : ℕ) (x : Packet) (rs : List Register) → state_in o (find_register a (joined b x rs)) ≡ state_in o (find_register a rs)
+pub state_joined : (o : Option Line) (a b : ℕ) (x : Packet) (rs : List Register)
+    → state_in o (find_register a (joined b x rs)) ≡ state_in o (find_register a rs)
 state_joined (Some l) a b x rs = refl
 state_joined None a b x [] = refl
 state_joined None a b x (r ∷ rs) = by (state_joined None a b x rs) (cases_eq r.address b) (cases_eq r.address a) where
-  by : state_in None (find_register a (joined b x rs)) ≡ state_in None (find_register a rs) → (r.address ≡ b) ⊎ (r.address ≡ b → ⊥) → (r.address ≡ a) ⊎ (r.address ≡ a → ⊥)
-      → state_in None (find_register a (if r.address == b then record r { targets = r.targets ++ x ∷ [] } ∷ rs else r ∷ joined b x rs)) ≡ state_in None (find_register a (r ∷ rs))
+  by : state_in None (find_register a (joined b x rs)) ≡ state_in None (find_register a rs) → (r.address ≡ b) ⊎ (r.address ≡ b → ⊥)
+      → (r.address ≡ a) ⊎ (r.address ≡ a → ⊥)
+      → state_in None (find_register a (if r.address == b then record r { targets = r.targets ++ x ∷ [] } ∷ rs else r ∷ joined b x rs))
+      ≡ state_in None (find_register a (r ∷ rs))
   by more (inl e) (inl f) = rw (eq-eqb r.address b e, eq-eqb r.address a f) refl
   by more (inl e) (inr f) = rw (eq-eqb r.address b e, ne_eqb r.address a f) refl
   by more (inr e) (inl f) = rw (ne_eqb r.address b e, eq-eqb r.address a f) refl
@@ -38,14 +41,16 @@ state_joined None a b x (r ∷ rs) = by (state_joined None a b x rs) (cases_eq r
 pub register-append : (a : ℕ) (rs : List Register) (r : Register) → (r.address ≡ a → ⊥) → find_register a (rs ++ r ∷ []) ≡ find_register a rs
 register-append a [] r n = register_past a r [] n
 register-append a (k ∷ ks) r n = by (register-append a ks r n) (cases_eq k.address a) where
-  by : find_register a (ks ++ r ∷ []) ≡ find_register a ks → (k.address ≡ a) ⊎ (k.address ≡ a → ⊥) → find_register a (k ∷ (ks ++ r ∷ [])) ≡ find_register a (k ∷ ks)
+  by : find_register a (ks ++ r ∷ []) ≡ find_register a ks → (k.address ≡ a) ⊎ (k.address ≡ a → ⊥)
+      → find_register a (k ∷ (ks ++ r ∷ [])) ≡ find_register a (k ∷ ks)
   by more (inl e) = register_here a k (ks ++ r ∷ []) e ∙ sym (register_here a k ks e)
   by more (inr e) = register_past a k (ks ++ r ∷ []) e ∙ (more ∙ sym (register_past a k ks e))
 
 pub register_added : (a : ℕ) (rs : List Register) (r : Register) → r.address ≡ a → find_register a rs ≡ None → find_register a (rs ++ r ∷ []) ≡ Some r
 register_added a [] r e n = register_here a r [] e
 register_added a (k ∷ ks) r e n = by (register_added a ks r e) (cases_eq k.address a) where
-  by : (find_register a ks ≡ None → find_register a (ks ++ r ∷ []) ≡ Some r) → (k.address ≡ a) ⊎ (k.address ≡ a → ⊥) → find_register a (k ∷ (ks ++ r ∷ [])) ≡ Some r
+  by : (find_register a ks ≡ None → find_register a (ks ++ r ∷ []) ≡ Some r) → (k.address ≡ a) ⊎ (k.address ≡ a → ⊥)
+      → find_register a (k ∷ (ks ++ r ∷ [])) ≡ Some r
   by more (inl f) = absurd (cc (sym (register_here a k ks f) ∙ n))
   by more (inr f) = register_past a k (ks ++ r ∷ []) f ∙ more (sym (register_past a k ks f) ∙ n)
 
@@ -72,7 +77,8 @@ gone_register s b (r ∷ rs) ok = by (gone_register s b rs ok.2) (cases_eq r.add
 pub registers_without : (s : CacheState) (b : ℕ) (rs : List Register) → AreRegisters s rs → AreRegisters s (without_register b rs)
 registers_without s b [] ok = tt
 registers_without s b (r ∷ rs) ok = by (registers_without s b rs ok.2) (cases_eq r.address b) where
-  by : AreRegisters s (without_register b rs) → (r.address ≡ b) ⊎ (r.address ≡ b → ⊥) → AreRegisters s (if r.address == b then rs else r ∷ without_register b rs)
+  by : AreRegisters s (without_register b rs) → (r.address ≡ b) ⊎ (r.address ≡ b → ⊥)
+      → AreRegisters s (if r.address == b then rs else r ∷ without_register b rs)
   by more (inl e) = rw (eq-eqb r.address b e) ok.2
   by more (inr e) = rw (ne_eqb r.address b e) (ok.0, register_without r.address b rs (λ f. e (sym f)) ∙ ok.1, more)
 

@@ -155,17 +155,21 @@ serves_line m l x cmd now ok apart there fits =
     let same : k.address ≡ l.address = after_address l x cmd in
     let old : IsLineOf m.cache (set_of m.cache l.address) l =
     line_facts m.cache (set_of m.cache l.address) l.address (set_at m.cache l.address) l (ok.each (set_of m.cache l.address)) there in
-    let is : IsLineOf m.cache (set_of m.cache k.address) k = (refl, ap (λ a. a % m.cache.common.line) same ∙ old.1, after_length m.cache l x cmd ok.some_bytes old.2 fits) in
+    let is : IsLineOf m.cache (set_of m.cache k.address) k =
+    (refl, ap (λ a. a % m.cache.common.line) same ∙ old.1, after_length m.cache l x cmd ok.some_bytes old.2 fits) in
     let c = respond_cache l x cmd now u in
     let found = used_found m.cache ok apart l k same there is in
     record {
-      own = ap (λ (s : CacheState). view_of s l.address) c
+      own =
+          ap (λ (s : CacheState). view_of s l.address) c
           ∙ ap (λ o. line_view (state_in o (find_register l.address m.cache.registers)) (requests m.cache l.address m.cache.leaving.items)) found;
       other = λ a n.
           ap (λ (s : CacheState). view_of s a) c
-          ∙ ap (λ o. line_view (state_in o (find_register a m.cache.registers)) (requests m.cache a m.cache.leaving.items)) (used_other m.cache ok apart l k same there is a n);
+          ∙ ap (λ o. line_view (state_in o (find_register a m.cache.registers)) (requests m.cache a m.cache.leaving.items))
+          (used_other m.cache ok apart l k same there is a n);
       found = ap (λ (s : CacheState). line_in s l.address) c ∙ found;
-      sets = subst HasSets (sym c) (sets_rest u.cache u.cache.registers t.cache.answers u.cache.leaving u.cache.waiter (used_sets m.cache ok apart l k same there is));
+      sets = subst HasSets (sym c) (sets_rest u.cache u.cache.registers t.cache.answers u.cache.leaving u.cache.waiter
+          (used_sets m.cache ok apart l k same there is));
       apart = subst AreApart (sym c) (used_apart m.cache ok apart l k same there is);
       rest = c ∙ ap (λ ls. let s : CacheState = record m.cache { lines = ls; answers = t.cache.answers } in s) (sym (ap (λ (s : CacheState). s.lines) c));
       entries = respond_entries l x cmd now u;
@@ -179,7 +183,9 @@ then_serves : (m : CacheMoved) (l k j : Line) (es fs : List Entry) (t u : CacheM
     → ServesLine m l j (es ++ fs) u
 then_serves m l k j es fs t u same a b =
     record {
-      own = subst (λ c. view_of u.cache c ≡ line_view (line_state j) (view_of t.cache c).sent) same b.own ∙ ap (λ (v : LineView). line_view (line_state j) v.sent) a.own;
+      own =
+          subst (λ c. view_of u.cache c ≡ line_view (line_state j) (view_of t.cache c).sent) same b.own
+          ∙ ap (λ (v : LineView). line_view (line_state j) v.sent) a.own;
       other = λ c n. b.other c (λ e. n (sym same ∙ e)) ∙ a.other c n;
       found = subst (λ c. line_in u.cache c ≡ Some j) same b.found;
       sets = b.sets;
@@ -209,7 +215,8 @@ serves_all m l (x ∷ xs) now ok apart there fits =
     let t = respond l x x.cmd now (using k m) in
     let same : k.address ≡ l.address = after_address l x x.cmd in
     let a = serves_line m l x x.cmd now ok apart there (fits_of m.cache l.address x fits.0) in
-    let targets : AreTargets t.cache k.address xs = subst (λ (s : CacheState). AreTargets s k.address xs) (sym a.rest) (subst (λ c. AreTargets m.cache c xs) (sym same) fits.1) in
+    let targets : AreTargets t.cache k.address xs =
+    subst (λ (s : CacheState). AreTargets s k.address xs) (sym a.rest) (subst (λ c. AreTargets m.cache c xs) (sym same) fits.1) in
     let b = serves_all t k xs now a.sets a.apart (subst (λ c. line_in t.cache c ≡ Some k) (sym same) a.found) targets in
     let e : serving l.address x now m ≡ t = ap (λ o. serving_in o x now m) there in
     subst (λ (n : CacheMoved). ServesLine m l (line_after_all l (x ∷ xs)) (noted_by_all l (x ∷ xs)) (serving_all l.address xs now n)) (sym e)

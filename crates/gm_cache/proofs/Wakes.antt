@@ -60,7 +60,10 @@ calling_lines m a = ap (λ (s : CacheState). view_of s a) (calling_cache m)
 does_call : (m t : CacheMoved) (b : ℕ) (after : LineView) (es : List Entry) → Does m b after es t → Does m b after es (calling t)
 does_call m t b after es d =
     record {
-      lifts = record { own = calling_lines t b ∙ d.lifts.own; other = λ a n. subst (λ v. Moves (view_of m.cache a) v) (sym (calling_lines t a)) (d.lifts.other a n) };
+      lifts = record {
+        own = calling_lines t b ∙ d.lifts.own;
+        other = λ a n. subst (λ v. Moves (view_of m.cache a) v) (sym (calling_lines t a)) (d.lifts.other a n);
+      };
       ok = calling_tags t d.ok;
       entries = calling_entries t ∙ d.entries;
     }
@@ -86,7 +89,8 @@ serve_at : (m : CacheMoved) (a : ℕ) (l : Line) (x : Packet) (now : ℕ) (es : 
     → Does m a (line_view (line_state (line_after l x x.cmd)) (view_of m.cache a).sent) (es ++ noted_by l x x.cmd) (serving_in (Some l) x now (noting es m))
 serve_at m a l x now es ok there fits =
     let here : l.address ≡ a = found_line a (set_at m.cache a) l there in
-    subst (λ b. Does m b (line_view (line_state (line_after l x x.cmd)) (view_of m.cache b).sent) (es ++ noted_by l x x.cmd) (serving_in (Some l) x now (noting es m))) here
+    subst (λ b. Does m b (line_view (line_state (line_after l x x.cmd)) (view_of m.cache b).sent) (es ++ noted_by l x x.cmd)
+    (serving_in (Some l) x now (noting es m))) here
     (does_serve m l x now es ok (subst (λ b. line_in m.cache b ≡ Some l) (sym here) there) (subst (λ b. IsTarget m.cache b x) (sym here) fits))
 
 record AboveOk (s : CacheState) (x : Packet) (t : CacheMoved) : Type 0 where
@@ -219,7 +223,8 @@ stays_at : (s : CacheState) (next p : ℕ) (f g : List Queued → OutState → M
 stays_at s next zero f g e ok =
     leaves_call (begun s next) (above_moved (f s.answers.items s.answers.out) (begun s next)) (leaves_above (begun s next) (f s.answers.items s.answers.out) ok)
 stays_at s next (suc p) f g e ok =
-    leaves_call (begun s next) (below_moved (g s.leaving.items s.leaving.out) (begun s next)) (leaves_below (begun s next) (g s.leaving.items s.leaving.out) e ok)
+    leaves_call (begun s next) (below_moved (g s.leaving.items s.leaving.out) (begun s next))
+    (leaves_below (begun s next) (g s.leaving.items s.leaving.out) e ok)
 
 taken_above : (s : CacheState) (next now : ℕ) → HasTags s → Leaves (begun s next) (calling (sent_in 0 now (begun s next)))
 taken_above s next now ok =

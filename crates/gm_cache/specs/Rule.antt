@@ -1,6 +1,6 @@
 -- What a cache does: it serves accesses of lines that it has, asks for a line that it lacks, and writes dirty lines back as they leave.
 -- This project's own rules. They are total: a packet that lies in no line passes through as an uncached one does.
-use Rattle.std.specs.Prelude.{ℕ, zero, suc, ◌+◌, ◌-◌, ◌%◌, ◌==◌, nat_le, nat_lt, ◌&&◌, ◌||◌, not, Bool, true, false, if◌then◌else◌, List, [], ◌∷◌, ◌++◌, length, take, drop, Option, Some, None}
+use Rattle.std.specs.Prelude.{ℕ, zero, suc, ◌+◌, ◌-◌, ◌%◌, ◌==◌, nat_le, nat_lt, ◌&&◌, ◌||◌, not, Bool, true, false, if◌then◌else◌, List, [], ◌∷◌, ◌++◌, length, take, drop, Option, Some, None, is_some}
 use Rattle.cache_tags.specs.Line.{Line, new_line, rewritten, in_front, come_in, leaving_line}
 use Rattle.gm_cache.specs.State.{Register, CacheState, base_of, set_at, with_set, line_in, find_register, without_register, joined, targets_in, above, below, answers_outlet, leaving_outlet}
 use Rattle.gm_model.specs.Flows.{Moved, put_in, ask_in, hold_in, again_in, gone_in, call_at}
@@ -17,7 +17,7 @@ use Rattle.gm_words.specs.declared.entry.Entry.{Entry}
 use Rattle.gm_words.specs.declared.entry.Entry.TheVariants as entries
 use Rattle.gm_words.specs.declared.wake.Wake.{Wake}
 use Rattle.gm_words.specs.declared.wake.Wake.TheVariants as wakes
-use Rattle.pkt_pool.specs.Packet.{carried_bytes, read_response, request, write_response}
+use Rattle.pkt_pool.specs.Packet.{carried_bytes, is_write_back, read_response, request, write_response}
 use Rattle.pkt_pool.specs.declared.cmd.Cmd.{Cmd}
 use Rattle.pkt_pool.specs.declared.cmd.Cmd.TheVariants as cmds
 use Rattle.pkt_pool.specs.declared.packet.Packet.{Packet}

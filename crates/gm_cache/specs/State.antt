@@ -1,6 +1,6 @@
 -- The state of a cache: its lines by set, the lines that are on their way to it, and what it has to send at its two ports.
 -- This project's own rules, after caches that take requests while lines are on their way.
-use Rattle.std.specs.Prelude.{ℕ, ◌-◌, ◌/◌, ◌%◌, ◌==◌, if◌then◌else◌, Bool, false, List, [], ◌∷◌, ◌++◌, find, replicate, slice_index_or, slice_set, Option}
+use Rattle.std.specs.Prelude.{ℕ, ◌-◌, ◌/◌, ◌%◌, ◌==◌, if◌then◌else◌, Bool, false, List, [], ◌∷◌, ◌++◌, map, find, replicate, slice_index_or, slice_set, Option, Some, None}
 use Rattle.cache_tags.specs.Line.{Line}
 use Rattle.gm_model.specs.Flows.{Outlet}
 use Rattle.gm_model.specs.ObjState.{Common, common_start}
