@@ -4,8 +4,8 @@ use Rattle.std.specs.Prelude.{nat_le, nat_lt}
 use Rattle.std.proofs.lemmas.Bool.{cases_eq, leb-false}
 use Rattle.cache_tags.specs.Line.{Line}
 use Rattle.gm_cache.specs.State.{CacheState, Register, set_of, find_register, line_in, without_register, joined, leaving_outlet}
-use Rattle.gm_cache.specs.Rule.{backs, has_full, is_blocked, is_cached, line_after, CacheMoved, noting, line_request, requesting, installing, serving_in, serving_all, with_registers, sending_below, above_moved, below_moved}
-use Rattle.gm_cache.specs.Lines.{Filling, Request, ReadLine, LineView, line_view, requests, requests_in, line_state, state_in, view_of, IsLineOf, HasSets, IsTarget, AreTargets, AreRegisters, HasRegisters, AreApart, HasTags, Moves, Stay, Lifts, KeepsLines, noted_by, line_after_all, noted_by_all}
+use Rattle.gm_cache.specs.Rule.{backs, has_full, is_blocked, is_cached, CacheMoved, noting, line_request, requesting, installing, serving_in, serving_all, with_registers, sending_below, above_moved, below_moved}
+use Rattle.gm_cache.specs.Lines.{Filling, Request, ReadLine, LineView, line_view, requests, requests_in, line_state, state_in, view_of, IsLineOf, HasSets, IsTarget, AreTargets, AreRegisters, HasRegisters, AreApart, HasTags, Moves, Stay, Lifts, KeepsLines, noted_by, after_request, after_requests, noted_by_all}
 use Rattle.gm_cache.proofs.QueueLemmas.{requests-put, backs-put, one_back, requests_none, own_read, own_other}
 use Rattle.gm_cache.proofs.RegisterLemmas.{state_joined, register-append, register_added, register_without, gone_register, registers_without, length-without_register, length-joined, joined_none, registers_joined, registers_added}
 use Rattle.gm_cache.proofs.Coming.{sets_rest, evicting_backs, evicting_entries, victim_of, came_in, installs, installs_cache, installs_sets, installs_found, installs_apart}
@@ -61,7 +61,7 @@ pub record Leaves (m t : CacheMoved) : Type 0 where
 -- the line is there: it serves the request
 pub does_serve : (m : CacheMoved) (l : Line) (x : Packet) (now : ℕ) (es : List Entry) → HasTags m.cache → line_in m.cache l.address ≡ Some l
     → IsTarget m.cache l.address x
-    → Does m l.address (line_view (line_state (line_after l x x.cmd)) (view_of m.cache l.address).sent) (es ++ noted_by l x x.cmd)
+    → Does m l.address (line_view (line_state (after_request l x x.cmd)) (view_of m.cache l.address).sent) (es ++ noted_by l x x.cmd)
     (serving_in (Some l) x now (noting es m))
 does_serve m l x now es ok there fits =
     let k = serves_line (noting es m) l x x.cmd now ok.sets ok.apart there (fits_of m.cache l.address x fits) in
@@ -209,7 +209,7 @@ closed a told m = record (with_registers (without_register a m.cache.registers) 
 -- a line comes, and its register's targets are served
 pub does_fill : (m : CacheMoved) (l : Line) (r : Register) (now : ℕ) (told : Told) → HasTags m.cache → find_register l.address m.cache.registers ≡ Some r
     → IsLineOf m.cache (set_of m.cache l.address) l → AreTargets m.cache l.address r.targets
-    → Does m l.address (line_view (line_state (line_after_all l r.targets)) (view_of m.cache l.address).sent) (noted_by_all l r.targets)
+    → Does m l.address (line_view (line_state (after_requests l r.targets)) (view_of m.cache l.address).sent) (noted_by_all l r.targets)
     (serving_all l.address r.targets now (installing l now (closed l.address told m)))
 unfolding view_of
 does_fill m l r now told ok there is fits =
@@ -228,7 +228,7 @@ does_fill m l r now told ok there is fits =
     let k = serves_all t l r.targets now tags.sets tags.apart (installs_found l now c sets none is) targets in
     record {
       lifts = record {
-        own = k.own ∙ ap (λ (v : LineView). line_view (line_state (line_after_all l r.targets)) v.sent) i.own;
+        own = k.own ∙ ap (λ (v : LineView). line_view (line_state (after_requests l r.targets)) v.sent) i.own;
         other = λ a n. subst (λ v. Moves (view_of m.cache a) v) (sym (k.other a n)) (subst (λ v. Moves v (view_of t.cache a)) (same a n) (i.other a n));
       };
       ok = record {

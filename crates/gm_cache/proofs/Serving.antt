@@ -5,7 +5,7 @@ use Rattle.std.proofs.lemmas.List.{drop_all}
 use Rattle.cache_tags.specs.Line.{Line, without_line, put_at, new_line}
 use Rattle.gm_cache.specs.State.{CacheState, base_of, set_of, set_at, with_set, find_line, find_register, line_in}
 use Rattle.gm_cache.specs.Rule.{CacheMoved, lies_in, line_after, using, respond, serving_in, serving, serving_all}
-use Rattle.gm_cache.specs.Lines.{LineView, line_view, requests, line_state, state_in, view_of, AreLines, IsLineOf, HasSets, IsTarget, AreTargets, AreApart, noted_by, line_after_all, noted_by_all}
+use Rattle.gm_cache.specs.Lines.{LineView, line_view, requests, line_state, state_in, view_of, AreLines, IsLineOf, HasSets, IsTarget, AreTargets, AreApart, noted_by, after_request, after_requests, noted_by_all}
 use Rattle.gm_cache.proofs.SetLemmas.{set_same, set_other, find_here, find_past, find_without, gone_line, lines_without, length-without, line_facts}
 use Rattle.gm_cache.proofs.Coming.{sets_with, sets_rest}
 use Rattle.gm_words.specs.declared.entry.Entry.{Entry}
@@ -64,12 +64,23 @@ after_length s l x cmds.WriteBack some e f =
     let p = back_parts s l.address x f in
     length-put_at l.bytes (x.addr - l.address) (carried_bytes x) (omega (arith, offset_of s l.address x some f.1, p.0, p.1, e)) ∙ e
 
--- a line after a write-back is dirty with its bytes
-pub after_back : (s : CacheState) (l : Line) (x : Packet) → 0 < s.common.line → length l.bytes ≡ s.common.line → Fits s l.address x cmds.WriteBack
-    → line_after l x cmds.WriteBack ≡ new_line l.address true (carried_bytes x)
-after_back s l x some e f =
+-- it is the line that the laws say
+pub after_same : (s : CacheState) (l : Line) (x : Packet) (cmd : Cmd) → 0 < s.common.line → length l.bytes ≡ s.common.line → Fits s l.address x cmd
+    → line_after l x cmd ≡ after_request l x cmd
+after_same s l x cmds.Read some e f = refl
+after_same s l x cmds.Write some e f = refl
+after_same s l x cmds.ReadResp some e f = refl
+after_same s l x cmds.WriteResp some e f = refl
+after_same s l x cmds.WriteBack some e f =
     let p = back_parts s l.address x f in
     ap (new_line l.address true) (put_whole l.bytes (x.addr - l.address) (carried_bytes x) (omega (arith, offset_of s l.address x some f.1, p.0)) (p.1 ∙ sym e))
+
+request_address : (l : Line) (x : Packet) (cmd : Cmd) → (after_request l x cmd).address ≡ l.address
+request_address l x cmds.Read = refl
+request_address l x cmds.Write = refl
+request_address l x cmds.ReadResp = refl
+request_address l x cmds.WriteResp = refl
+request_address l x cmds.WriteBack = refl
 
 -- What is answered.
 
@@ -146,7 +157,7 @@ pub record ServesLine (m : CacheMoved) (l after : Line) (noted : List Entry) (t 
 
 -- one request
 pub serves_line : (m : CacheMoved) (l : Line) (x : Packet) (cmd : Cmd) (now : ℕ) → HasSets m.cache → AreApart m.cache → line_in m.cache l.address ≡ Some l
-    → Fits m.cache l.address x cmd → ServesLine m l (line_after l x cmd) (noted_by l x cmd) (respond l x cmd now (using (line_after l x cmd) m))
+    → Fits m.cache l.address x cmd → ServesLine m l (after_request l x cmd) (noted_by l x cmd) (respond l x cmd now (using (line_after l x cmd) m))
 unfolding view_of
 serves_line m l x cmd now ok apart there fits =
     let k = line_after l x cmd in
@@ -159,7 +170,8 @@ serves_line m l x cmd now ok apart there fits =
     (refl, ap (λ a. a % m.cache.common.line) same ∙ old.1, after_length m.cache l x cmd ok.some_bytes old.2 fits) in
     let c = respond_cache l x cmd now u in
     let found = used_found m.cache ok apart l k same there is in
-    record {
+    subst (λ j. ServesLine m l j (noted_by l x cmd) t) (after_same m.cache l x cmd ok.some_bytes old.2 fits)
+    (record {
       own =
           ap (λ (s : CacheState). view_of s l.address) c
           ∙ ap (λ o. line_view (state_in o (find_register l.address m.cache.registers)) (requests m.cache l.address m.cache.leaving.items)) found;
@@ -173,7 +185,7 @@ serves_line m l x cmd now ok apart there fits =
       apart = subst AreApart (sym c) (used_apart m.cache ok apart l k same there is);
       rest = c ∙ ap (λ ls. let s : CacheState = record m.cache { lines = ls; answers = t.cache.answers } in s) (sym (ap (λ (s : CacheState). s.lines) c));
       entries = respond_entries l x cmd now u;
-    }
+    })
 
 own_view : (s : CacheState) (l : Line) → line_in s l.address ≡ Some l → view_of s l.address ≡ line_view (line_state l) (view_of s l.address).sent
 unfolding view_of
@@ -196,7 +208,7 @@ then_serves m l k j es fs t u same a b =
 
 -- and requests in order
 pub serves_all : (m : CacheMoved) (l : Line) (xs : List Packet) (now : ℕ) → HasSets m.cache → AreApart m.cache → line_in m.cache l.address ≡ Some l
-    → AreTargets m.cache l.address xs → ServesLine m l (line_after_all l xs) (noted_by_all l xs) (serving_all l.address xs now m)
+    → AreTargets m.cache l.address xs → ServesLine m l (after_requests l xs) (noted_by_all l xs) (serving_all l.address xs now m)
 unfolding serving_all
 serves_all m l [] now ok apart there fits =
     record {
@@ -211,14 +223,14 @@ serves_all m l [] now ok apart there fits =
       own : (n : CacheMoved) → line_in n.cache l.address ≡ Some l → view_of n.cache l.address ≡ line_view (line_state l) (view_of n.cache l.address).sent
       own n h = own_view n.cache l h
 serves_all m l (x ∷ xs) now ok apart there fits =
-    let k = line_after l x x.cmd in
-    let t = respond l x x.cmd now (using k m) in
-    let same : k.address ≡ l.address = after_address l x x.cmd in
+    let k = after_request l x x.cmd in
+    let t = respond l x x.cmd now (using (line_after l x x.cmd) m) in
+    let same : k.address ≡ l.address = request_address l x x.cmd in
     let a = serves_line m l x x.cmd now ok apart there (fits_of m.cache l.address x fits.0) in
     let targets : AreTargets t.cache k.address xs =
     subst (λ (s : CacheState). AreTargets s k.address xs) (sym a.rest) (subst (λ c. AreTargets m.cache c xs) (sym same) fits.1) in
     let b = serves_all t k xs now a.sets a.apart (subst (λ c. line_in t.cache c ≡ Some k) (sym same) a.found) targets in
     let e : serving l.address x now m ≡ t = ap (λ o. serving_in o x now m) there in
-    subst (λ (n : CacheMoved). ServesLine m l (line_after_all l (x ∷ xs)) (noted_by_all l (x ∷ xs)) (serving_all l.address xs now n)) (sym e)
-    (then_serves m l k (line_after_all k xs) (noted_by l x x.cmd) (noted_by_all k xs) t (serving_all l.address xs now t) same a
-    (subst (λ c. ServesLine t k (line_after_all k xs) (noted_by_all k xs) (serving_all c xs now t)) same b))
+    subst (λ (n : CacheMoved). ServesLine m l (after_requests l (x ∷ xs)) (noted_by_all l (x ∷ xs)) (serving_all l.address xs now n)) (sym e)
+    (then_serves m l k (after_requests k xs) (noted_by l x x.cmd) (noted_by_all k xs) t (serving_all l.address xs now t) same a
+    (subst (λ c. ServesLine t k (after_requests k xs) (noted_by_all k xs) (serving_all c xs now t)) same b))

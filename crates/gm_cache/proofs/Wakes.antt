@@ -5,13 +5,13 @@ use Rattle.std.proofs.lemmas.Bool.{and_parts, eqb-true}
 use Rattle.std.proofs.lemmas.List.{length-replicate}
 use Rattle.cache_tags.specs.Line.{Line, new_line}
 use Rattle.gm_cache.specs.State.{CacheState, Register, cache_start, base_of, set_of, set_at, find_line, line_in, find_register, joined, leaving_outlet, answers_outlet, above, below}
-use Rattle.gm_cache.specs.Rule.{backs, is_blocked, is_cached, lies_in, is_fill, line_after, CacheMoved, begun, noting, above_moved, below_moved, sending_below, sending_above, requesting, installing, absorbing, serving_in, with_registers, calling_in, calling, access_in, back_in, cached_in, taking, filling, fill_in, returning, from_above, next_ready, later, port_moved, sent_in, cache_step}
-use Rattle.gm_cache.specs.Lines.{Absent, Filling, Dirty, LineView, line_view, requests, requests_in, line_state, state_in, view_of, IsLineOf, AreLines, IsTarget, AreTargets, HasTags, Moves, Lifts, KeepsLines, Keeps, is_access, noted_by, FromAbove, Denies, Passes, Hits, Joins, Opens, Replaces, BackJoins, FromBelow, is_awaited, Returns, FillsLine, WithoutHead, SendsHead, MovesLines, StartsWithTags, WakesKeepTags, WakesMoveLines}
-use Rattle.gm_cache.proofs.SetLemmas.{found_line, line_facts}
+use Rattle.gm_cache.specs.Rule.{backs, is_blocked, is_cached, lies_in, is_fill, CacheMoved, begun, noting, above_moved, below_moved, sending_below, sending_above, requesting, installing, absorbing, serving_in, with_registers, calling_in, calling, access_in, back_in, cached_in, taking, filling, fill_in, returning, from_above, next_ready, later, port_moved, sent_in, cache_step}
+use Rattle.gm_cache.specs.Lines.{Absent, Filling, Dirty, LineView, line_view, requests, requests_in, line_state, state_in, view_of, IsLineOf, AreLines, IsTarget, AreTargets, HasTags, Moves, Lifts, KeepsLines, Keeps, is_access, noted_by, after_request, FromAbove, Denies, Passes, Hits, Joins, Opens, Replaces, BackJoins, FromBelow, is_awaited, Returns, FillsLine, WithoutHead, SendsHead, MovesLines, StartsWithTags, WakesKeepTags, WakesMoveLines}
+use Rattle.gm_cache.proofs.SetLemmas.{found_line}
 use Rattle.gm_cache.proofs.QueueLemmas.{base_multiple, requests-gone, backs-gone, ask_same, hold_same, again_same}
 use Rattle.gm_cache.proofs.RegisterLemmas.{found_register, register_facts}
 use Rattle.gm_cache.proofs.Coming.{sets_rest}
-use Rattle.gm_cache.proofs.Serving.{fits_of, after_back, back_whole}
+use Rattle.gm_cache.proofs.Serving.{fits_of, back_whole}
 use Rattle.gm_cache.proofs.Parts.{HasRoom, room_of, registers_rest, Does, Leaves, does_serve, does_join, does_open, does_install, does_fill, closed, line_absent, leaves_send, leaves_above, leaves_below, below_tags}
 use Rattle.gm_model.specs.Flows.{Moved, put_in, ask_in, hold_in, again_in, gone_in}
 use Rattle.gm_words.specs.Flow.{Queued, OutState}
@@ -86,10 +86,10 @@ view_absent s a e f = rw (e, f) refl
 
 -- the line at an address serves a request
 serve_at : (m : CacheMoved) (a : ℕ) (l : Line) (x : Packet) (now : ℕ) (es : List Entry) → HasTags m.cache → line_in m.cache a ≡ Some l → IsTarget m.cache a x
-    → Does m a (line_view (line_state (line_after l x x.cmd)) (view_of m.cache a).sent) (es ++ noted_by l x x.cmd) (serving_in (Some l) x now (noting es m))
+    → Does m a (line_view (line_state (after_request l x x.cmd)) (view_of m.cache a).sent) (es ++ noted_by l x x.cmd) (serving_in (Some l) x now (noting es m))
 serve_at m a l x now es ok there fits =
     let here : l.address ≡ a = found_line a (set_at m.cache a) l there in
-    subst (λ b. Does m b (line_view (line_state (line_after l x x.cmd)) (view_of m.cache b).sent) (es ++ noted_by l x x.cmd)
+    subst (λ b. Does m b (line_view (line_state (after_request l x x.cmd)) (view_of m.cache b).sent) (es ++ noted_by l x x.cmd)
     (serving_in (Some l) x now (noting es m))) here
     (does_serve m l x now es ok (subst (λ b. line_in m.cache b ≡ Some l) (sym here) there) (subst (λ b. IsTarget m.cache b x) (sym here) fits))
 
@@ -129,12 +129,7 @@ offered_above s next x now ok = by (is_blocked s) refl where
   back c u room (Some l) r eo er =
       let t = calling (serving_in (Some l) x now m) in
       let d = does_call m (serving_in (Some l) x now m) b _ _ (serve_at m b l x now [] ok eo (u, refl)) in
-      let here : l.address ≡ b = found_line b (set_at s b) l eo in
-      let is : IsLineOf s (set_of s b) l = line_facts s (set_of s b) b (set_at s b) l (ok.sets.each (set_of s b)) eo in
-      let f = fits_of s b x (u, refl) in
-      let e : line_state (line_after l x x.cmd) ≡ Dirty (carried_bytes x) =
-      ap (λ cmd. line_state (line_after l x cmd)) c
-      ∙ ap line_state (after_back s l x ok.sets.some_bytes is.2 (subst (λ cmd. lies_in s x cmd ≡ true) c f.0, sym here)) in
+      let e : line_state (after_request l x x.cmd) ≡ Dirty (carried_bytes x) = ap (λ cmd. line_state (after_request l x cmd)) c in
       record {
         effect = Replaces u c (subst (λ z. Lifts s b (line_view z (view_of s b).sent) t.cache) e d.lifts) (d.entries ∙ ap (λ cmd. noted_by l x cmd) c);
         ok = d.ok;

@@ -1,9 +1,9 @@
 -- What a cache has of each line and what it sends of it, what holds of its lines and registers, and what each wake does to a line.
 -- This project's own laws.
 use Rattle.std.specs.Prelude.{◌≡◌, ℕ, zero, suc, ◌+◌, ◌-◌, ◌%◌, ◌<◌, ◌≤◌, ◌==◌, ◌&&◌, Bool, true, false, if◌then◌else◌, List, [], ◌∷◌, ◌++◌, length, take, drop, slice_index_or, Option, Some, None, is_some}
-use Rattle.cache_tags.specs.Line.{Line, new_line}
+use Rattle.cache_tags.specs.Line.{Line, new_line, put_at}
 use Rattle.gm_cache.specs.State.{Register, CacheState, cache_start, base_of, set_of, find_line, line_in, find_register}
-use Rattle.gm_cache.specs.Rule.{backs, is_blocked, is_cached, is_fill, line_after, CacheMoved, cache_step}
+use Rattle.gm_cache.specs.Rule.{backs, is_blocked, is_cached, is_fill, CacheMoved, cache_step}
 use Rattle.gm_words.specs.Allowed.{IsAllowed}
 use Rattle.gm_words.specs.Entries.{served_entries}
 use Rattle.gm_words.specs.Flow.{Queued}
@@ -161,14 +161,22 @@ noted_by l x cmds.WriteBack = []
 noted_by l x cmds.ReadResp = []
 noted_by l x cmds.WriteResp = []
 
+-- a line after a request that it served: a write puts its bytes over the line's, a write-back brings all of them, and both leave it dirty
+abbrev pub after_request : Line → Packet → Cmd → Line
+after_request l x cmds.Read = l
+after_request l x cmds.Write = new_line l.address true (put_at l.bytes (x.addr - l.address) (carried_bytes x))
+after_request l x cmds.WriteBack = new_line l.address true (carried_bytes x)
+after_request l x cmds.ReadResp = l
+after_request l x cmds.WriteResp = l
+
 -- a line after requests, and what is noted of them, in order
-abbrev pub line_after_all : Line → List Packet → Line
-line_after_all l [] = l
-line_after_all l (x ∷ xs) = line_after_all (line_after l x x.cmd) xs
+abbrev pub after_requests : Line → List Packet → Line
+after_requests l [] = l
+after_requests l (x ∷ xs) = after_requests (after_request l x x.cmd) xs
 
 abbrev pub noted_by_all : Line → List Packet → List Entry
 noted_by_all l [] = []
-noted_by_all l (x ∷ xs) = noted_by l x x.cmd ++ noted_by_all (line_after l x x.cmd) xs
+noted_by_all l (x ∷ xs) = noted_by l x x.cmd ++ noted_by_all (after_request l x x.cmd) xs
 
 -- what an offer from above does, where b is the address of the packet's line: it is refused, passes, or is one of the line's
 pub data FromAbove (s : CacheState) (x : Packet) (b : ℕ) (t : CacheState) (es : List Entry) : Type 0 where
@@ -177,7 +185,7 @@ pub data FromAbove (s : CacheState) (x : Packet) (b : ℕ) (t : CacheState) (es 
   Passes : is_cached s x ≡ false → KeepsLines s t → es ≡ [] → FromAbove s x b t es
   -- the line is there, and serves it
   Hits : (l : Line) → is_cached s x ≡ true → is_access x.cmd ≡ true → line_in s b ≡ Some l
-      → Lifts s b (line_view (line_state (line_after l x x.cmd)) (view_of s b).sent) t
+      → Lifts s b (line_view (line_state (after_request l x x.cmd)) (view_of s b).sent) t
       → es ≡ entries.Hit (record { 0 = s.common.object }) ∷ noted_by l x x.cmd → FromAbove s x b t es
   -- the line is on its way: it waits with the others
   Joins : is_cached s x ≡ true → is_access x.cmd ≡ true → (view_of s b).line ≡ Filling → Lifts s b (line_view Filling (view_of s b).sent) t
@@ -201,7 +209,7 @@ is_awaited s y = is_fill s y && is_some (find_register y.addr s.registers)
 pub data FromBelow (s : CacheState) (y : Packet) (t : CacheState) (es : List Entry) : Type 0 where
   Returns : is_awaited s y ≡ false → KeepsLines s t → es ≡ [] → FromBelow s y t es
   FillsLine : (r : Register) → is_fill s y ≡ true → find_register y.addr s.registers ≡ Some r → (view_of s y.addr).line ≡ Filling
-      → Lifts s y.addr (line_view (line_state (line_after_all (new_line y.addr false (carried_bytes y)) r.targets)) (view_of s y.addr).sent) t
+      → Lifts s y.addr (line_view (line_state (after_requests (new_line y.addr false (carried_bytes y)) r.targets)) (view_of s y.addr).sent) t
       → es ≡ noted_by_all (new_line y.addr false (carried_bytes y)) r.targets → FromBelow s y t es
 
 -- the first packet that leaves is gone: what it asked of a line is sent no more
