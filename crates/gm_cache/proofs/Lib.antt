@@ -5,3 +5,4 @@ pub mod Coming
 pub mod Serving
 pub mod Parts
 pub mod Wakes
+pub mod Waiting

@@ -28,7 +28,7 @@ use Rattle.pkt_pool.specs.declared.packet.Packet.{Packet}
 -- The end of a wake.
 
 -- the call at the end changes the waiter alone
-calling_cache : (m : CacheMoved) → (calling m).cache ≡ (let s : CacheState = record m.cache { waiter = (calling m).cache.waiter } in s)
+pub calling_cache : (m : CacheMoved) → (calling m).cache ≡ (let s : CacheState = record m.cache { waiter = (calling m).cache.waiter } in s)
 calling_cache m = by m.cache.waiter (is_blocked m.cache) where
   by : (w b : Bool) → (calling_in w b m).cache ≡ (let s : CacheState = record m.cache { waiter = (calling_in w b m).cache.waiter } in s)
   by true true = refl

@@ -1,6 +1,6 @@
 -- What a cache has of each line and what it sends of it, what holds of its lines and registers, and what each wake does to a line.
 -- This project's own laws.
-use Rattle.std.specs.Prelude.{◌≡◌, ℕ, zero, suc, ◌+◌, ◌-◌, ◌%◌, ◌<◌, ◌≤◌, ◌==◌, ◌&&◌, Bool, true, false, if◌then◌else◌, List, [], ◌∷◌, ◌++◌, length, take, drop, slice_index_or, Option, Some, None, is_some}
+use Rattle.std.specs.Prelude.{◌≡◌, ℕ, zero, suc, ◌+◌, ◌-◌, ◌%◌, ◌<◌, ◌≤◌, ◌==◌, ◌&&◌, ◌||◌, not, Bool, true, false, if◌then◌else◌, List, [], ◌∷◌, ◌++◌, length, take, drop, slice_index_or, Option, Some, None, is_some}
 use Rattle.cache_tags.specs.Line.{Line, new_line, put_at}
 use Rattle.gm_cache.specs.State.{Register, CacheState, cache_start, base_of, set_of, find_line, line_in, find_register}
 use Rattle.gm_cache.specs.Rule.{backs, is_blocked, is_cached, is_fill, CacheMoved, cache_step}
@@ -240,6 +240,55 @@ MovesLines s (wakes.Retry port) t = Keeps s t
 MovesLines s (wakes.Line bit level) t = Keeps s t
 MovesLines s (wakes.AtomicDone p latency) t = Keeps s t
 
+-- Who waits.
+
+abbrev pub waiting_in : Option Register → List Packet
+waiting_in None = []
+waiting_in (Some r) = r.targets
+
+-- the packets that wait for the line at an address, in order
+unfoldable pub waiting_of : CacheState → ℕ → List Packet
+waiting_of s a = waiting_in (find_register a s.registers)
+
+-- these wait for the line at an address afterwards, and for each other line the same as before
+pub record Waits (s : CacheState) (b : ℕ) (after : List Packet) (t : CacheState) : Type 0 where
+  pub own : waiting_of t b ≡ after
+  pub other : (a : ℕ) → (b ≡ a → ⊥) → waiting_of t a ≡ waiting_of s a
+
+-- for each line the same wait
+abbrev pub KeepsWaiting : CacheState → CacheState → Type 0
+KeepsWaiting s t = (a : ℕ) → waiting_of t a ≡ waiting_of s a
+
+-- a packet from above that is taken waits where its line isn't there; but a write-back only where the line is on its way
+abbrev pub has_to_wait : CacheState → Packet → Bool
+has_to_wait s x =
+    not (is_blocked s) && is_cached s x && not (is_some (line_in s (base_of s x.addr)))
+    && (is_access x.cmd || is_some (find_register (base_of s x.addr) s.registers))
+
+-- it waits behind the others
+abbrev pub WaitsAbove : CacheState → Packet → CacheState → Bool → Type 0
+WaitsAbove s x t true = Waits s (base_of s x.addr) (waiting_of s (base_of s x.addr) ++ x ∷ []) t
+WaitsAbove s x t false = KeepsWaiting s t
+
+-- nobody waits for a line that came
+abbrev pub WaitsBelow : CacheState → Packet → CacheState → Bool → Type 0
+WaitsBelow s y t true = Waits s y.addr [] t
+WaitsBelow s y t false = KeepsWaiting s t
+
+abbrev pub OfferWaits : CacheState → ℕ → Packet → CacheState → Type 0
+OfferWaits s zero x t = WaitsAbove s x t (has_to_wait s x)
+OfferWaits s (suc p) y t = WaitsBelow s y t (is_awaited s y)
+
+-- what a wake does to those who wait
+abbrev pub MovesWaiting : CacheState → Wake → CacheState → Type 0
+MovesWaiting s (wakes.Event slot) t = KeepsWaiting s t
+MovesWaiting s (wakes.Offer port x) t = OfferWaits s port.0 x t
+MovesWaiting s (wakes.Taken port) t = KeepsWaiting s t
+MovesWaiting s (wakes.Refused port) t = KeepsWaiting s t
+MovesWaiting s (wakes.Retry port) t = KeepsWaiting s t
+MovesWaiting s (wakes.Line bit level) t = KeepsWaiting s t
+MovesWaiting s (wakes.AtomicDone p latency) t = KeepsWaiting s t
+
 -- The laws.
 
 -- at its start a cache has no line and sends nothing
@@ -258,3 +307,7 @@ WakesKeepTags = (s : CacheState) (next : ℕ) (w : Wake) (now : ℕ) → HasTags
 -- whatever the wake and its packet, each line's view changes as is said of the wake
 abbrev pub WakesMoveLines : Type 0
 WakesMoveLines = (s : CacheState) (next : ℕ) (w : Wake) (now : ℕ) → HasTags s → MovesLines s w (cache_step s next w now).moved
+
+-- whatever the wake and its packet, those who wait change as is said of the wake
+abbrev pub WakesMoveWaiting : Type 0
+WakesMoveWaiting = (s : CacheState) (next : ℕ) (w : Wake) (now : ℕ) → HasTags s → MovesWaiting s w (cache_step s next w now).moved.cache
