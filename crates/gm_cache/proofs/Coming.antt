@@ -80,8 +80,11 @@ evicting_backs now (Some v) m = by v.dirty where
   by : (b : Bool) → backs (if b then requesting cmds.WriteBack v.address v.bytes now m else m).cache.leaving.items ≤ backs m.cache.leaving.items + 1
   by false = omega arith
   by true =
-      omega (arith, backs-put leaving_outlet (line_request m.cache m.next cmds.WriteBack v.address v.bytes)
-      (now + m.cache.latency) m.cache.leaving.items m.cache.leaving.out)
+      omega (
+        arith,
+        backs-put leaving_outlet (line_request m.cache m.next cmds.WriteBack v.address v.bytes)
+            (now + m.cache.latency) m.cache.leaving.items m.cache.leaving.out,
+      )
 
 pub evicting_entries : (now : ℕ) (o : Option Line) (m : CacheMoved) → (evicting o now m).entries ≡ m.entries
 evicting_entries now None m = refl
@@ -209,7 +212,7 @@ installs l now m ok apart none = record { own = own; other = other } where
       (requests m.cache a m.cache.leaving.items ++ evicted a (victim_of l m.cache)))
   in_set a n (inl e) =
       let p = parts_move m.cache (set_of m.cache l.address) (stays_of l m.cache) (victim_of l m.cache) a (find_register a m.cache.registers)
-          (requests m.cache a m.cache.leaving.items) lines
+      (requests m.cache a m.cache.leaving.items) lines
       (apart_victim a e) in
       let before : stays_of l m.cache ++ leavers (victim_of l m.cache) ≡ set_at m.cache a =
       split l m.cache ok ∙ sym (ap (λ i. slice_index_or m.cache.lines i []) e) in

@@ -1,10 +1,10 @@
 -- A line that is there serves requests.
-use Rattle.std.proofs.Common.{◌≡◌, ℕ, ◌+◌, ◌-◌, ◌%◌, ◌<◌, ◌≤◌, ◌⊎◌, inl, inr, true, not, ◌==◌, List, [], ◌∷◌, ◌++◌, length, Some, None, refl, sym, ◌∙◌, ap, subst, arith, append-nil, append_assoc, length-append, length-take, length-drop, slice_index_or}
+use Rattle.std.proofs.Common.{◌≡◌, ℕ, ◌+◌, ◌-◌, ◌%◌, ◌<◌, ◌≤◌, ◌⊎◌, inl, inr, true, false, not, ◌==◌, List, [], ◌∷◌, ◌++◌, length, Some, None, refl, sym, ◌∙◌, ap, subst, arith, append-nil, append_assoc, length-append, length-take, length-drop, slice_index_or}
 use Rattle.std.proofs.lemmas.Bool.{cases_eq, and_parts, eqb-true, leb-true}
 use Rattle.std.proofs.lemmas.List.{drop_all}
 use Rattle.cache_tags.specs.Line.{Line, without_line, put_at, new_line}
 use Rattle.gm_cache.specs.State.{CacheState, base_of, set_of, set_at, with_set, find_line, find_register, line_in}
-use Rattle.gm_cache.specs.Rule.{CacheMoved, lies_in, line_after, using, respond, serving_in, serving, serving_all}
+use Rattle.gm_cache.specs.Rule.{CacheMoved, is_cached, lies_in, line_after, using, respond, serving_in, serving, serving_all}
 use Rattle.gm_cache.specs.Lines.{LineView, line_view, requests, line_state, state_in, view_of, AreLines, IsLineOf, HasSets, IsTarget, AreTargets, AreApart, noted_by, after_request, after_requests, noted_by_all}
 use Rattle.gm_cache.proofs.SetLemmas.{set_same, set_other, find_here, find_past, find_without, gone_line, lines_without, length-without, line_facts}
 use Rattle.gm_cache.proofs.Coming.{sets_with, sets_rest}
@@ -22,6 +22,10 @@ Fits s a x cmd = (lies_in s x cmd ≡ true) × (base_of s x.addr ≡ a)
 
 pub fits_of : (s : CacheState) (a : ℕ) (x : Packet) → IsTarget s a x → Fits s a x x.cmd
 fits_of s a x h = ((and_parts (not x.uncached) (lies_in s x x.cmd) h.0).1, h.1)
+
+-- a response lies in no line
+pub no_response : (s : CacheState) (x : Packet) (cmd : Cmd) → x.cmd ≡ cmd → lies_in s x cmd ≡ false → is_cached s x ≡ true → ⊥
+no_response s x cmd c h u = cc (sym h, subst (λ k. lies_in s x k ≡ true) c (fits_of s (base_of s x.addr) x (u, refl)).0)
 
 length-put_at : (bytes : List ℕ) (offset : ℕ) (others : List ℕ) → offset + length others ≤ length bytes → length (put_at bytes offset others) ≡ length bytes
 length-put_at bytes offset others h = simp (length-append, length-take, length-drop) (omega arith)

@@ -1,14 +1,14 @@
 -- What each wake of a cache does to those who wait for lines.
-use Rattle.std.proofs.Common.{◌≡◌, ℕ, zero, suc, ◌⊎◌, inl, inr, ◌&&◌, ◌||◌, not, Bool, true, false, if◌then◌else◌, List, [], ◌∷◌, ◌++◌, Option, Some, None, refl, sym, ◌∙◌, ap, subst, eq-eqb, ne_eqb, ◌==◌}
+use Rattle.std.proofs.Common.{◌≡◌, ℕ, zero, suc, ◌⊎◌, inl, inr, ◌&&◌, ◌||◌, not, Bool, true, false, if◌then◌else◌, List, [], ◌∷◌, ◌++◌, Option, Some, None, refl, sym, ◌∙◌, ap, eq-eqb, ne_eqb, ◌==◌}
 use Rattle.std.specs.Prelude.{is_some}
 use Rattle.std.proofs.lemmas.Bool.{cases_eq}
 use Rattle.cache_tags.specs.Line.{Line, new_line}
-use Rattle.gm_cache.specs.State.{CacheState, Register, base_of, set_at, line_in, find_register, without_register, joined, above, below}
-use Rattle.gm_cache.specs.Rule.{is_blocked, is_cached, lies_in, is_fill, line_after, CacheMoved, begun, noting, absorbing, installing, using, respond, serving_in, serving, serving_all, calling_in, calling, access_in, back_in, cached_in, taking, filling, fill_in, returning, from_above, port_moved, sent_in, with_registers, cache_step}
+use Rattle.gm_cache.specs.State.{CacheState, Register, base_of, line_in, find_register, without_register, joined, above, below}
+use Rattle.gm_cache.specs.Rule.{is_blocked, is_cached, is_fill, line_after, CacheMoved, begun, noting, absorbing, installing, using, serving_in, serving, serving_all, calling, access_in, back_in, cached_in, taking, filling, fill_in, returning, from_above, port_moved, sent_in, cache_step}
 use Rattle.gm_cache.specs.Lines.{HasTags, is_access, is_awaited, waiting_in, waiting_of, Waits, KeepsWaiting, has_to_wait, WaitsAbove, WaitsBelow, MovesWaiting, WakesMoveWaiting}
 use Rattle.gm_cache.proofs.RegisterLemmas.{register_here, register_past, register-append, register_added, register_without, gone_register}
 use Rattle.gm_cache.proofs.Coming.{evicting_cache, victim_of, came_in}
-use Rattle.gm_cache.proofs.Serving.{respond_cache, fits_of}
+use Rattle.gm_cache.proofs.Serving.{respond_cache, no_response}
 use Rattle.gm_cache.proofs.Parts.{closed}
 use Rattle.gm_cache.proofs.Wakes.{calling_cache}
 use Rattle.gm_model.specs.Flows.{Moved, ask_in, hold_in, again_in}
@@ -133,17 +133,13 @@ waits_above s next x now = by (is_blocked s) where
       let t = back_in b x now None None m in
       keeps_waiting s (calling t).cache (called t ∙ installed (new_line b true (carried_bytes x)) now (absorbing x m))
 
-  -- a response lies in no line
-  no_response : (cmd : Cmd) → x.cmd ≡ cmd → lies_in s x cmd ≡ false → is_cached s x ≡ true → ⊥
-  no_response cmd c h u = cc (sym h, subst (λ k. lies_in s x k ≡ true) c (fits_of s b x (u, refl)).0)
-
   cached : (cmd : Cmd) → x.cmd ≡ cmd → is_cached s x ≡ true
       → WaitsAbove s x (calling (cached_in b x now cmd m)).cache (not (is_some (line_in s b)) && (is_access cmd || is_some (find_register b s.registers)))
   cached cmds.Read c u = access (line_in s b) (find_register b s.registers) refl
   cached cmds.Write c u = access (line_in s b) (find_register b s.registers) refl
   cached cmds.WriteBack c u = back (line_in s b) (find_register b s.registers) refl
-  cached cmds.ReadResp c u = absurd (no_response cmds.ReadResp c refl u)
-  cached cmds.WriteResp c u = absurd (no_response cmds.WriteResp c refl u)
+  cached cmds.ReadResp c u = absurd (no_response s x cmds.ReadResp c refl u)
+  cached cmds.WriteResp c u = absurd (no_response s x cmds.WriteResp c refl u)
 
   taken : (u : Bool) → is_cached s x ≡ u
       → WaitsAbove s x (calling (taking x now u m)).cache (u && not (is_some (line_in s b)) && (is_access x.cmd || is_some (find_register b s.registers)))

@@ -11,7 +11,7 @@ use Rattle.gm_cache.proofs.SetLemmas.{found_line}
 use Rattle.gm_cache.proofs.QueueLemmas.{base_multiple, requests-gone, backs-gone, ask_same, hold_same, again_same}
 use Rattle.gm_cache.proofs.RegisterLemmas.{found_register, register_facts}
 use Rattle.gm_cache.proofs.Coming.{sets_rest}
-use Rattle.gm_cache.proofs.Serving.{fits_of, back_whole}
+use Rattle.gm_cache.proofs.Serving.{fits_of, back_whole, no_response}
 use Rattle.gm_cache.proofs.Parts.{HasRoom, room_of, registers_rest, Does, Leaves, does_serve, does_join, does_open, does_install, does_fill, closed, line_absent, leaves_send, leaves_above, leaves_below, below_tags}
 use Rattle.gm_model.specs.Flows.{Moved, put_in, ask_in, hold_in, again_in, gone_in}
 use Rattle.gm_words.specs.Flow.{Queued, OutState}
@@ -145,16 +145,12 @@ offered_above s next x now ok = by (is_blocked s) refl where
       let d = does_call (absorbing x m) (installing l now (absorbing x m)) b _ _ (does_install (absorbing x m) l now ok room eo er is) in
       record { effect = Replaces u c d.lifts d.entries; ok = d.ok }
 
-  -- a response lies in no line
-  no_response : (cmd : Cmd) → x.cmd ≡ cmd → lies_in s x cmd ≡ false → is_cached s x ≡ true → ⊥
-  no_response cmd c h u = cc (sym h, subst (λ k. lies_in s x k ≡ true) c (fits_of s b x (u, refl)).0)
-
   cached : (cmd : Cmd) → x.cmd ≡ cmd → is_cached s x ≡ true → HasRoom s → AboveOk s x (calling (cached_in b x now cmd m))
   cached cmds.Read c u room = access (ap is_access c) u room (line_in s b) (find_register b s.registers) refl refl
   cached cmds.Write c u room = access (ap is_access c) u room (line_in s b) (find_register b s.registers) refl refl
   cached cmds.WriteBack c u room = back c u room (line_in s b) (find_register b s.registers) refl refl
-  cached cmds.ReadResp c u room = absurd (no_response cmds.ReadResp c refl u)
-  cached cmds.WriteResp c u room = absurd (no_response cmds.WriteResp c refl u)
+  cached cmds.ReadResp c u room = absurd (no_response s x cmds.ReadResp c refl u)
+  cached cmds.WriteResp c u room = absurd (no_response s x cmds.WriteResp c refl u)
 
   taken : (u : Bool) → is_cached s x ≡ u → HasRoom s → AboveOk s x (calling (taking x now u m))
   taken true u room = cached x.cmd refl u room

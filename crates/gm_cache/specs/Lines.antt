@@ -36,6 +36,7 @@ pub record LineView : Type 0 where
   pub line : LineState
   pub sent : List Request
 
+-- a view by its parts
 abbrev pub line_view : LineState → List Request → LineView
 line_view line sent = record { line = line; sent = sent }
 
@@ -56,15 +57,17 @@ abbrev pub requests : CacheState → ℕ → List Queued → List Request
 requests s a [] = []
 requests s a (x ∷ xs) = requests_in s a x.packet ++ requests s a xs
 
+-- what a cache has of a line that is there
 abbrev pub line_state : Line → LineState
 line_state l = if l.dirty then Dirty l.bytes else Clean l.bytes
 
--- by the line and the register that are found
+-- what it has of a line, by the line and the register that are found
 abbrev pub state_in : Option Line → Option Register → LineState
 state_in (Some l) r = line_state l
 state_in None (Some r) = Filling
 state_in None None = Absent
 
+-- the view of the line at an address
 unfoldable pub view_of : CacheState → ℕ → LineView
 view_of s a = line_view (state_in (line_in s a) (find_register a s.registers)) (requests s a s.leaving.items)
 
@@ -92,11 +95,12 @@ pub record HasSets (s : CacheState) : Type 0 where
 abbrev pub IsTarget : CacheState → ℕ → Packet → Type 0
 IsTarget s a x = (is_cached s x ≡ true) × (base_of s x.addr ≡ a)
 
+-- so do all these packets
 abbrev pub AreTargets : CacheState → ℕ → List Packet → Type 0
 AreTargets s a [] = Unit {0}
 AreTargets s a (x ∷ xs) = IsTarget s a x × AreTargets s a xs
 
--- a register is of a line, and has as many targets as it may: one at least
+-- a register is of a line, and has targets, but not more than it may
 abbrev pub IsRegister : CacheState → Register → Type 0
 IsRegister s r =
     (r.address % s.common.line ≡ 0) × (1 ≤ length r.targets) × (length r.targets ≤ s.targets) × AreTargets s r.address r.targets
@@ -217,15 +221,17 @@ abbrev pub WithoutHead : CacheState → CacheState → List Queued → Type 0
 WithoutHead s t [] = KeepsLines s t
 WithoutHead s t (x ∷ rest) = (a : ℕ) → view_of s a ≡ line_view (view_of t a).line (requests_in s a x.packet ++ (view_of t a).sent)
 
+-- and nothing is noted
 pub record SendsHead (s : CacheState) (t : CacheMoved) : Type 0 where
   pub lines : WithoutHead s t.cache s.leaving.items
   pub entries : t.entries ≡ []
 
--- a packet that is offered above, or below; and one of the cache's own that was taken above, or below
+-- what the offer of a packet above does, and below
 abbrev pub OfferMoves : CacheState → ℕ → Packet → CacheMoved → Type 0
 OfferMoves s zero x t = FromAbove s x (base_of s x.addr) t.cache t.entries
 OfferMoves s (suc p) y t = FromBelow s y t.cache t.entries
 
+-- what it does that a packet was taken which the cache offered above, and below
 abbrev pub TakenMoves : CacheState → ℕ → CacheMoved → Type 0
 TakenMoves s zero t = Keeps s t
 TakenMoves s (suc p) t = SendsHead s t
@@ -242,6 +248,7 @@ MovesLines s (wakes.AtomicDone p latency) t = Keeps s t
 
 -- Who waits.
 
+-- the packets of a register, if there is one
 abbrev pub waiting_in : Option Register → List Packet
 waiting_in None = []
 waiting_in (Some r) = r.targets
@@ -265,16 +272,17 @@ has_to_wait s x =
     not (is_blocked s) && is_cached s x && not (is_some (line_in s (base_of s x.addr)))
     && (is_access x.cmd || is_some (find_register (base_of s x.addr) s.registers))
 
--- it waits behind the others
+-- if it waits, then behind the others
 abbrev pub WaitsAbove : CacheState → Packet → CacheState → Bool → Type 0
 WaitsAbove s x t true = Waits s (base_of s x.addr) (waiting_of s (base_of s x.addr) ++ x ∷ []) t
 WaitsAbove s x t false = KeepsWaiting s t
 
--- nobody waits for a line that came
+-- if it is the line, nobody waits for it afterwards
 abbrev pub WaitsBelow : CacheState → Packet → CacheState → Bool → Type 0
 WaitsBelow s y t true = Waits s y.addr [] t
 WaitsBelow s y t false = KeepsWaiting s t
 
+-- what the offer of a packet above, or below, does to those who wait
 abbrev pub OfferWaits : CacheState → ℕ → Packet → CacheState → Type 0
 OfferWaits s zero x t = WaitsAbove s x t (has_to_wait s x)
 OfferWaits s (suc p) y t = WaitsBelow s y t (is_awaited s y)
@@ -296,6 +304,7 @@ pub record IsFresh (s : CacheState) : Type 0 where
   pub tags : HasTags s
   pub lines : (a : ℕ) → view_of s a ≡ line_view Absent []
 
+-- whatever a cache is configured with, so it starts
 abbrev pub StartsWithTags : Type 0
 StartsWithTags = (p : Params) (source sets ways mshrs targets writeq latency : ℕ) → IsAllowed p → 1 ≤ sets → 1 ≤ ways → 1 ≤ targets
     → IsFresh (cache_start p source sets ways mshrs targets writeq latency)
