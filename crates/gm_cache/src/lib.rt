@@ -2,3 +2,7 @@
 //!
 //! Its promise: the definitions in `specs/` are total. Read `specs/State.antt` and then `specs/Rule.antt`.
 #![tactic(auto)]
+
+mod laws;
+
+pub use laws::cache_lines_keep_laws;
