@@ -1,2 +1,3 @@
 pub mod State
 pub mod Rule
+pub mod Example

@@ -2,3 +2,7 @@
 //!
 //! Its promise: the definitions in `specs/` are total. Read `specs/State.antt` and then `specs/Rule.antt`.
 #![tactic(auto)]
+
+mod example;
+
+pub use example::{reads_without_time, wakes_give_rows};
