@@ -1,6 +1,6 @@
 -- A small cache, computed: it is woken with requests, responses and events in turn, and what each wake gives is written out. The numbers
 -- come from another interpreter of the same rule, which shares nothing with this one. This project's own example.
-use Rattle.std.specs.Prelude.{◌≡◌, ℕ, zero, suc, ◌++◌, map, Bool, true, false, List, [], ◌∷◌, length, Option, None}
+use Rattle.std.specs.Prelude.{◌≡◌, ℕ, zero, suc, ◌+◌, map, Bool, true, false, List, [], ◌∷◌, length}
 use Rattle.cache_tags.specs.Line.{Line, new_line}
 use Rattle.gm_cache.specs.State.{Register, CacheState, cache_start, above, below}
 use Rattle.gm_cache.specs.Rule.{CacheStepped, cache_step, cache_functional}
@@ -614,7 +614,8 @@ pub record WakesGiveRows : Type 0 where
   pub filling_over_clean : told_of filling_over_clean_wakes after_staying_blocked
     ≡ record {
       rows =
-        Gives answers.Taken 61 [] (Schedule 0 0 130 ∷ []) (served_at 21 true 98 (230 ∷ 231 ∷ 232 ∷ []) ∷ served_at 22 false 96 (130 ∷ 131 ∷ 230 ∷ 231 ∷ 232 ∷ 135 ∷ 136 ∷ 137 ∷ []) ∷ [])
+        Gives answers.Taken 61 [] (Schedule 0 0 130 ∷ [])
+            (served_at 21 true 98 (230 ∷ 231 ∷ 232 ∷ []) ∷ served_at 22 false 96 (130 ∷ 131 ∷ 230 ∷ 231 ∷ 232 ∷ 135 ∷ 136 ∷ 137 ∷ []) ∷ [])
         ∷ Gives answers.Taken 62 [] (Schedule 1 10 131 ∷ []) []
         ∷ Gives answers.Taken 62 [] [] []
         ∷ Gives answers.Taken 63 [] [] []
