@@ -483,7 +483,8 @@ pub record WakesGiveRows : Type 0 where
         Gives answers.Taken 53 [] (Schedule 1 10 60 ∷ []) []
         ∷ Gives answers.Nothing 53 (Offers 0 4 1 cmds.ReadResp 16 8 (120 ∷ 121 ∷ 122 ∷ 123 ∷ 124 ∷ 125 ∷ 126 ∷ 127 ∷ []) ∷ []) [] []
         ∷ Gives answers.Nothing 53 [] (Schedule 0 0 60 ∷ []) []
-        ∷ Gives answers.Nothing 53 (Offers 0 7 9 cmds.ReadResp 48 16 (160 ∷ 161 ∷ 162 ∷ 163 ∷ 164 ∷ 165 ∷ 166 ∷ 167 ∷ 168 ∷ 169 ∷ 170 ∷ 171 ∷ 172 ∷ 173 ∷ 174 ∷ 175 ∷ []) ∷ []) [] []
+        ∷ Gives answers.Nothing 53
+            (Offers 0 7 9 cmds.ReadResp 48 16 (160 ∷ 161 ∷ 162 ∷ 163 ∷ 164 ∷ 165 ∷ 166 ∷ 167 ∷ 168 ∷ 169 ∷ 170 ∷ 171 ∷ 172 ∷ 173 ∷ 174 ∷ 175 ∷ []) ∷ []) [] []
         ∷ Gives answers.Nothing 53 [] [] []
         ∷ Gives answers.Nothing 53 (Offers 1 11 1 cmds.Read 5008 8 [] ∷ []) [] []
         ∷ Gives answers.Nothing 53 [] [] []
@@ -517,10 +518,12 @@ pub record WakesGiveRows : Type 0 where
         ∷ Gives answers.Nothing 55 [] (Schedule 0 0 72 ∷ []) []
         ∷ Gives answers.Nothing 55 (Offers 0 12 1 cmds.ReadResp 20 4 (144 ∷ 145 ∷ 146 ∷ 147 ∷ []) ∷ []) [] []
         ∷ Gives answers.Nothing 55 [] [] []
-        ∷ Gives answers.Nothing 55 (Offers 1 53 4 cmds.WriteBack 16 16 (140 ∷ 141 ∷ 142 ∷ 143 ∷ 144 ∷ 145 ∷ 146 ∷ 147 ∷ 148 ∷ 149 ∷ 150 ∷ 151 ∷ 152 ∷ 153 ∷ 154 ∷ 155 ∷ []) ∷ []) [] []
+        ∷ Gives answers.Nothing 55
+            (Offers 1 53 4 cmds.WriteBack 16 16 (140 ∷ 141 ∷ 142 ∷ 143 ∷ 144 ∷ 145 ∷ 146 ∷ 147 ∷ 148 ∷ 149 ∷ 150 ∷ 151 ∷ 152 ∷ 153 ∷ 154 ∷ 155 ∷ []) ∷ []) [] []
         ∷ Gives answers.Nothing 55 [] [] []
         ∷ Gives answers.Refused 55 [] [] (refuses ∷ [])
-        ∷ Gives answers.Nothing 55 (Offers 1 53 4 cmds.WriteBack 16 16 (140 ∷ 141 ∷ 142 ∷ 143 ∷ 144 ∷ 145 ∷ 146 ∷ 147 ∷ 148 ∷ 149 ∷ 150 ∷ 151 ∷ 152 ∷ 153 ∷ 154 ∷ 155 ∷ []) ∷ []) [] []
+        ∷ Gives answers.Nothing 55
+            (Offers 1 53 4 cmds.WriteBack 16 16 (140 ∷ 141 ∷ 142 ∷ 143 ∷ 144 ∷ 145 ∷ 146 ∷ 147 ∷ 148 ∷ 149 ∷ 150 ∷ 151 ∷ 152 ∷ 153 ∷ 154 ∷ 155 ∷ []) ∷ []) [] []
         ∷ Gives answers.Nothing 55 (Calls 0 ∷ []) (Schedule 1 10 78 ∷ []) []
         ∷ Gives answers.Taken 55 [] [] []
         ∷ [];
@@ -550,7 +553,8 @@ pub record WakesGiveRows : Type 0 where
         ∷ Gives answers.Refused 57 [] [] (refuses ∷ [])
         ∷ Gives answers.Nothing 57 (Offers 0 16 1 cmds.ReadResp 64 4 (220 ∷ 221 ∷ 222 ∷ 223 ∷ []) ∷ []) [] []
         ∷ Gives answers.Nothing 57 [] [] []
-        ∷ Gives answers.Nothing 57 (Offers 1 55 4 cmds.WriteBack 32 16 (180 ∷ 181 ∷ 182 ∷ 183 ∷ 184 ∷ 185 ∷ 186 ∷ 187 ∷ 188 ∷ 189 ∷ 190 ∷ 191 ∷ 192 ∷ 193 ∷ 194 ∷ 195 ∷ []) ∷ []) [] []
+        ∷ Gives answers.Nothing 57
+            (Offers 1 55 4 cmds.WriteBack 32 16 (180 ∷ 181 ∷ 182 ∷ 183 ∷ 184 ∷ 185 ∷ 186 ∷ 187 ∷ 188 ∷ 189 ∷ 190 ∷ 191 ∷ 192 ∷ 193 ∷ 194 ∷ 195 ∷ []) ∷ []) [] []
         ∷ Gives answers.Nothing 57 (Calls 0 ∷ []) (Schedule 1 10 91 ∷ []) []
         ∷ Gives answers.Nothing 57 (Offers 1 56 4 cmds.Read 32 16 [] ∷ []) [] []
         ∷ Gives answers.Nothing 57 [] [] []
@@ -580,7 +584,8 @@ pub record WakesGiveRows : Type 0 where
         ∷ Gives answers.Nothing 59 [] (Schedule 1 10 105 ∷ []) []
         ∷ Gives answers.Nothing 59 (Offers 0 18 1 cmds.ReadResp 32 1 (10 ∷ []) ∷ []) [] []
         ∷ Gives answers.Nothing 59 [] [] []
-        ∷ Gives answers.Nothing 59 (Offers 1 58 4 cmds.WriteBack 0 16 (40 ∷ 41 ∷ 42 ∷ 43 ∷ 44 ∷ 45 ∷ 46 ∷ 47 ∷ 48 ∷ 49 ∷ 50 ∷ 51 ∷ 52 ∷ 53 ∷ 54 ∷ 55 ∷ []) ∷ []) [] []
+        ∷ Gives answers.Nothing 59
+            (Offers 1 58 4 cmds.WriteBack 0 16 (40 ∷ 41 ∷ 42 ∷ 43 ∷ 44 ∷ 45 ∷ 46 ∷ 47 ∷ 48 ∷ 49 ∷ 50 ∷ 51 ∷ 52 ∷ 53 ∷ 54 ∷ 55 ∷ []) ∷ []) [] []
         ∷ Gives answers.Nothing 59 (Calls 0 ∷ []) [] []
         ∷ Gives answers.Taken 59 [] (Schedule 0 0 116 ∷ []) (hits ∷ served_at 20 true 66 (7 ∷ 8 ∷ []) ∷ [])
         ∷ Gives answers.Taken 60 [] (Schedule 1 10 117 ∷ []) (misses ∷ [])
@@ -592,7 +597,8 @@ pub record WakesGiveRows : Type 0 where
         ∷ Gives answers.Nothing 61 [] (Schedule 1 10 119 ∷ []) []
         ∷ Gives answers.Nothing 61 (Offers 0 19 1 cmds.ReadResp 112 2 (30 ∷ 31 ∷ []) ∷ []) [] []
         ∷ Gives answers.Nothing 61 [] [] []
-        ∷ Gives answers.Nothing 61 (Offers 1 60 4 cmds.WriteBack 80 16 (20 ∷ 21 ∷ 22 ∷ 23 ∷ 24 ∷ 25 ∷ 26 ∷ 27 ∷ 28 ∷ 29 ∷ 30 ∷ 31 ∷ 32 ∷ 33 ∷ 34 ∷ 35 ∷ []) ∷ []) [] []
+        ∷ Gives answers.Nothing 61
+            (Offers 1 60 4 cmds.WriteBack 80 16 (20 ∷ 21 ∷ 22 ∷ 23 ∷ 24 ∷ 25 ∷ 26 ∷ 27 ∷ 28 ∷ 29 ∷ 30 ∷ 31 ∷ 32 ∷ 33 ∷ 34 ∷ 35 ∷ []) ∷ []) [] []
         ∷ Gives answers.Nothing 61 (Calls 0 ∷ []) [] []
         ∷ Gives answers.Taken 61 [] [] (misses ∷ [])
         ∷ [];
@@ -643,9 +649,11 @@ pub record WakesGiveRows : Type 0 where
         ∷ Gives answers.Nothing 63 [] (Schedule 0 0 130 ∷ []) []
         ∷ Gives answers.Nothing 63 (Offers 0 22 1 cmds.ReadResp 96 8 (130 ∷ 131 ∷ 230 ∷ 231 ∷ 232 ∷ 135 ∷ 136 ∷ 137 ∷ []) ∷ []) [] []
         ∷ Gives answers.Nothing 63 [] [] []
-        ∷ Gives answers.Nothing 63 (Offers 1 61 4 cmds.WriteBack 48 16 (60 ∷ 61 ∷ 62 ∷ 63 ∷ 64 ∷ 65 ∷ 66 ∷ 67 ∷ 68 ∷ 69 ∷ 70 ∷ 71 ∷ 72 ∷ 73 ∷ 74 ∷ 75 ∷ []) ∷ []) [] []
+        ∷ Gives answers.Nothing 63
+            (Offers 1 61 4 cmds.WriteBack 48 16 (60 ∷ 61 ∷ 62 ∷ 63 ∷ 64 ∷ 65 ∷ 66 ∷ 67 ∷ 68 ∷ 69 ∷ 70 ∷ 71 ∷ 72 ∷ 73 ∷ 74 ∷ 75 ∷ []) ∷ []) [] []
         ∷ Gives answers.Nothing 63 (Calls 0 ∷ []) (Schedule 1 10 133 ∷ []) []
-        ∷ Gives answers.Nothing 63 (Offers 1 62 4 cmds.WriteBack 16 16 (50 ∷ 51 ∷ 52 ∷ 53 ∷ 54 ∷ 55 ∷ 56 ∷ 57 ∷ 58 ∷ 59 ∷ 60 ∷ 61 ∷ 62 ∷ 63 ∷ 64 ∷ 65 ∷ []) ∷ []) [] []
+        ∷ Gives answers.Nothing 63
+            (Offers 1 62 4 cmds.WriteBack 16 16 (50 ∷ 51 ∷ 52 ∷ 53 ∷ 54 ∷ 55 ∷ 56 ∷ 57 ∷ 58 ∷ 59 ∷ 60 ∷ 61 ∷ 62 ∷ 63 ∷ 64 ∷ 65 ∷ []) ∷ []) [] []
         ∷ Gives answers.Nothing 63 [] [] []
         ∷ Gives answers.Taken 63 [] (Schedule 0 0 144 ∷ []) (hits ∷ served_at 26 false 64 (80 ∷ 81 ∷ 7 ∷ 8 ∷ []) ∷ [])
         ∷ Gives answers.Nothing 63 (Offers 0 26 1 cmds.ReadResp 64 4 (80 ∷ 81 ∷ 7 ∷ 8 ∷ []) ∷ []) [] []
