@@ -2,7 +2,7 @@
 -- come from another interpreter of the same rule, which shares nothing with this one. This project's own example.
 use Rattle.std.specs.Prelude.{◌≡◌, ℕ, zero, suc, ◌+◌, map, Bool, true, false, List, [], ◌∷◌, length}
 use Rattle.cache_tags.specs.Line.{Line, new_line}
-use Rattle.gm_cache.specs.State.{Register, CacheState, cache_start, above, below}
+use Rattle.gm_cache.specs.State.{Register, CacheState, cache_start}
 use Rattle.gm_cache.specs.Rule.{CacheStepped, cache_step, cache_functional}
 use Rattle.gm_words.specs.Changes.{Change, Schedule}
 use Rattle.gm_words.specs.Entries.{entry_bytes}
@@ -204,6 +204,7 @@ passing_wakes =
     ∷ at 20 (offer 1 (device_answer_of 1 5000 (counted 90 4)))
     ∷ []
 
+-- the stage then
 abbrev pub after_passing : Stage
 after_passing = after passing_wakes (small_cache 2)
 
@@ -229,6 +230,7 @@ filling_wakes =
     ∷ at 40 (taken 0)
     ∷ []
 
+-- the stage then
 abbrev pub after_filling : Stage
 after_filling = after filling_wakes after_passing
 
@@ -249,6 +251,7 @@ writing_back_wakes =
     ∷ at 50 (offer 0 (back_of 10 32 (counted 180 16)))
     ∷ []
 
+-- the stage then
 abbrev pub after_writing_back : Stage
 after_writing_back = after writing_back_wakes after_filling
 
@@ -269,6 +272,7 @@ driving_out_wakes =
     ∷ at 65 (offer 0 (back_of 15 48 (counted 60 16)))
     ∷ []
 
+-- the stage then
 abbrev pub after_driving_out : Stage
 after_driving_out = after driving_out_wakes after_writing_back
 
@@ -289,6 +293,7 @@ lacking_places_wakes =
     ∷ at 78 (offer 0 (back_of 17 64 (counted 80 16)))
     ∷ []
 
+-- the stage then
 abbrev pub after_lacking_places : Stage
 after_lacking_places = after lacking_places_wakes after_driving_out
 
@@ -310,6 +315,7 @@ filling_over_dirty_wakes =
     ∷ at 91 (offer 0 (read_of 19 112 2))
     ∷ []
 
+-- the stage then
 abbrev pub after_filling_over_dirty : Stage
 after_filling_over_dirty = after filling_over_dirty_wakes after_lacking_places
 
@@ -339,6 +345,7 @@ staying_blocked_wakes =
     ∷ at 119 (offer 0 (read_of 22 96 8))
     ∷ []
 
+-- the stage then
 abbrev pub after_staying_blocked : Stage
 after_staying_blocked = after staying_blocked_wakes after_filling_over_dirty
 
@@ -352,6 +359,7 @@ filling_over_clean_wakes =
     ∷ at 124 (offer 0 (read_of 26 64 4))
     ∷ []
 
+-- the stage then
 abbrev pub after_filling_over_clean : Stage
 after_filling_over_clean = after filling_over_clean_wakes after_staying_blocked
 
@@ -371,6 +379,7 @@ ending_wakes =
     ∷ at 144 (taken 0)
     ∷ []
 
+-- the stage then
 abbrev pub after_ending : Stage
 after_ending = after ending_wakes after_filling_over_clean
 
@@ -390,322 +399,322 @@ using_registers_wakes =
 -- what each wake gives, and how the cache stands after some
 pub record WakesGiveRows : Type 0 where
   pub passing : told_of passing_wakes (small_cache 2)
-    ≡ record {
-      rows =
-        Gives answers.Taken 50 [] (Schedule 1 10 10 ∷ []) []
-        ∷ Gives answers.Taken 51 [] [] (misses ∷ [])
-        ∷ Gives answers.Taken 51 [] [] (misses ∷ [])
-        ∷ Gives answers.Refused 51 [] [] (refuses ∷ [])
-        ∷ Gives answers.Nothing 51 (Offers 1 1 1 cmds.Read 5000 4 [] ∷ []) [] []
-        ∷ Gives answers.Nothing 51 [] (Schedule 1 10 14 ∷ []) []
-        ∷ Gives answers.Nothing 51 (Offers 1 50 4 cmds.Read 32 16 [] ∷ []) [] []
-        ∷ Gives answers.Nothing 51 [] [] []
-        ∷ Gives answers.Nothing 51 (Offers 1 50 4 cmds.Read 32 16 [] ∷ []) [] []
-        ∷ Gives answers.Nothing 51 [] [] []
-        ∷ Gives answers.Taken 51 [] (Schedule 0 0 30 ∷ []) []
-        ∷ [];
-      seen = record {
-        lines =
-          []
-          ∷ []
-          ∷ [];
-        registers = (32, 2 ∷ 3 ∷ []) ∷ [];
-        answers = (1, 30) ∷ [];
-        leaving = [];
-        waiter = true;
-      };
-    }
+      ≡ record {
+        rows =
+            Gives answers.Taken 50 [] (Schedule 1 10 10 ∷ []) []
+            ∷ Gives answers.Taken 51 [] [] (misses ∷ [])
+            ∷ Gives answers.Taken 51 [] [] (misses ∷ [])
+            ∷ Gives answers.Refused 51 [] [] (refuses ∷ [])
+            ∷ Gives answers.Nothing 51 (Offers 1 1 1 cmds.Read 5000 4 [] ∷ []) [] []
+            ∷ Gives answers.Nothing 51 [] (Schedule 1 10 14 ∷ []) []
+            ∷ Gives answers.Nothing 51 (Offers 1 50 4 cmds.Read 32 16 [] ∷ []) [] []
+            ∷ Gives answers.Nothing 51 [] [] []
+            ∷ Gives answers.Nothing 51 (Offers 1 50 4 cmds.Read 32 16 [] ∷ []) [] []
+            ∷ Gives answers.Nothing 51 [] [] []
+            ∷ Gives answers.Taken 51 [] (Schedule 0 0 30 ∷ []) []
+            ∷ [];
+        seen = record {
+          lines =
+              []
+              ∷ []
+              ∷ [];
+          registers = (32, 2 ∷ 3 ∷ []) ∷ [];
+          answers = (1, 30) ∷ [];
+          leaving = [];
+          waiter = true;
+        };
+      }
   pub filling : told_of filling_wakes after_passing
-    ≡ record {
-      rows =
-        Gives answers.Taken 51 (Calls 0 ∷ []) [] (served_at 2 false 36 (104 ∷ 105 ∷ 106 ∷ 107 ∷ []) ∷ served_at 3 true 40 (201 ∷ 202 ∷ []) ∷ [])
-        ∷ Gives answers.Taken 52 [] (Schedule 1 10 36 ∷ []) (misses ∷ [])
-        ∷ Gives answers.Taken 52 [] [] (hits ∷ served_at 5 false 44 (112 ∷ 113 ∷ 114 ∷ 115 ∷ []) ∷ [])
-        ∷ Gives answers.Taken 52 [] [] (hits ∷ served_at 6 true 32 (211 ∷ 212 ∷ 213 ∷ 214 ∷ 215 ∷ 216 ∷ 217 ∷ 218 ∷ []) ∷ [])
-        ∷ Gives answers.Nothing 52 (Offers 0 1 1 cmds.ReadResp 5000 4 (90 ∷ 91 ∷ 92 ∷ 93 ∷ []) ∷ []) [] []
-        ∷ Gives answers.Nothing 52 [] [] []
-        ∷ Gives answers.Nothing 52 (Offers 0 1 1 cmds.ReadResp 5000 4 (90 ∷ 91 ∷ 92 ∷ 93 ∷ []) ∷ []) [] []
-        ∷ Gives answers.Nothing 52 [] (Schedule 0 0 35 ∷ []) []
-        ∷ Gives answers.Nothing 52 (Offers 0 2 1 cmds.ReadResp 36 4 (104 ∷ 105 ∷ 106 ∷ 107 ∷ []) ∷ []) [] []
-        ∷ Gives answers.Nothing 52 [] (Schedule 0 0 35 ∷ []) []
-        ∷ Gives answers.Nothing 52 (Offers 0 3 1 cmds.WriteResp 40 2 [] ∷ []) [] []
-        ∷ Gives answers.Nothing 52 [] [] []
-        ∷ Gives answers.Nothing 52 (Offers 1 51 4 cmds.Read 16 16 [] ∷ []) [] []
-        ∷ Gives answers.Nothing 52 [] [] []
-        ∷ Gives answers.Nothing 52 (Offers 0 3 1 cmds.WriteResp 40 2 [] ∷ []) [] []
-        ∷ Gives answers.Nothing 52 [] (Schedule 0 0 40 ∷ []) []
-        ∷ [];
-      seen = record {
-        lines =
-          (new_line 32 true (211 ∷ 212 ∷ 213 ∷ 214 ∷ 215 ∷ 216 ∷ 217 ∷ 218 ∷ 201 ∷ 202 ∷ 110 ∷ 111 ∷ 112 ∷ 113 ∷ 114 ∷ 115 ∷ [])
-            ∷ [])
-          ∷ []
-          ∷ [];
-        registers = (16, 4 ∷ []) ∷ [];
-        answers = (5, 37) ∷ (6, 38) ∷ [];
-        leaving = [];
-        waiter = false;
-      };
-    }
+      ≡ record {
+        rows =
+            Gives answers.Taken 51 (Calls 0 ∷ []) [] (served_at 2 false 36 (104 ∷ 105 ∷ 106 ∷ 107 ∷ []) ∷ served_at 3 true 40 (201 ∷ 202 ∷ []) ∷ [])
+            ∷ Gives answers.Taken 52 [] (Schedule 1 10 36 ∷ []) (misses ∷ [])
+            ∷ Gives answers.Taken 52 [] [] (hits ∷ served_at 5 false 44 (112 ∷ 113 ∷ 114 ∷ 115 ∷ []) ∷ [])
+            ∷ Gives answers.Taken 52 [] [] (hits ∷ served_at 6 true 32 (211 ∷ 212 ∷ 213 ∷ 214 ∷ 215 ∷ 216 ∷ 217 ∷ 218 ∷ []) ∷ [])
+            ∷ Gives answers.Nothing 52 (Offers 0 1 1 cmds.ReadResp 5000 4 (90 ∷ 91 ∷ 92 ∷ 93 ∷ []) ∷ []) [] []
+            ∷ Gives answers.Nothing 52 [] [] []
+            ∷ Gives answers.Nothing 52 (Offers 0 1 1 cmds.ReadResp 5000 4 (90 ∷ 91 ∷ 92 ∷ 93 ∷ []) ∷ []) [] []
+            ∷ Gives answers.Nothing 52 [] (Schedule 0 0 35 ∷ []) []
+            ∷ Gives answers.Nothing 52 (Offers 0 2 1 cmds.ReadResp 36 4 (104 ∷ 105 ∷ 106 ∷ 107 ∷ []) ∷ []) [] []
+            ∷ Gives answers.Nothing 52 [] (Schedule 0 0 35 ∷ []) []
+            ∷ Gives answers.Nothing 52 (Offers 0 3 1 cmds.WriteResp 40 2 [] ∷ []) [] []
+            ∷ Gives answers.Nothing 52 [] [] []
+            ∷ Gives answers.Nothing 52 (Offers 1 51 4 cmds.Read 16 16 [] ∷ []) [] []
+            ∷ Gives answers.Nothing 52 [] [] []
+            ∷ Gives answers.Nothing 52 (Offers 0 3 1 cmds.WriteResp 40 2 [] ∷ []) [] []
+            ∷ Gives answers.Nothing 52 [] (Schedule 0 0 40 ∷ []) []
+            ∷ [];
+        seen = record {
+          lines =
+              (new_line 32 true (211 ∷ 212 ∷ 213 ∷ 214 ∷ 215 ∷ 216 ∷ 217 ∷ 218 ∷ 201 ∷ 202 ∷ 110 ∷ 111 ∷ 112 ∷ 113 ∷ 114 ∷ 115 ∷ [])
+              ∷ [])
+              ∷ []
+              ∷ [];
+          registers = (16, 4 ∷ []) ∷ [];
+          answers = (5, 37) ∷ (6, 38) ∷ [];
+          leaving = [];
+          waiter = false;
+        };
+      }
   pub writing_back : told_of writing_back_wakes after_filling
-    ≡ record {
-      rows =
-        Gives answers.Taken 53 [] (Schedule 1 10 50 ∷ []) (misses ∷ [])
-        ∷ Gives answers.Refused 53 [] [] (refuses ∷ [])
-        ∷ Gives answers.Nothing 53 (Offers 0 5 1 cmds.ReadResp 44 4 (112 ∷ 113 ∷ 114 ∷ 115 ∷ []) ∷ []) [] []
-        ∷ Gives answers.Nothing 53 [] (Schedule 0 0 40 ∷ []) []
-        ∷ Gives answers.Nothing 53 (Offers 0 6 1 cmds.WriteResp 32 8 [] ∷ []) [] []
-        ∷ Gives answers.Nothing 53 [] [] []
-        ∷ Gives answers.Taken 53 (Calls 0 ∷ []) (Schedule 0 0 51 ∷ []) (served_at 4 false 16 (120 ∷ 121 ∷ 122 ∷ 123 ∷ 124 ∷ 125 ∷ 126 ∷ 127 ∷ []) ∷ [])
-        ∷ Gives answers.Taken 53 [] [] []
-        ∷ Gives answers.Nothing 53 (Offers 1 52 4 cmds.Read 48 16 [] ∷ []) [] []
-        ∷ Gives answers.Nothing 53 [] [] []
-        ∷ Gives answers.Taken 53 [] [] []
-        ∷ Gives answers.Taken 53 [] [] []
-        ∷ [];
-      seen = record {
-        lines =
-          (new_line 32 true (180 ∷ 181 ∷ 182 ∷ 183 ∷ 184 ∷ 185 ∷ 186 ∷ 187 ∷ 188 ∷ 189 ∷ 190 ∷ 191 ∷ 192 ∷ 193 ∷ 194 ∷ 195 ∷ [])
-            ∷ [])
-          ∷ (new_line 48 false (160 ∷ 161 ∷ 162 ∷ 163 ∷ 164 ∷ 165 ∷ 166 ∷ 167 ∷ 168 ∷ 169 ∷ 170 ∷ 171 ∷ 172 ∷ 173 ∷ 174 ∷ 175 ∷ [])
-            ∷ new_line 16 true (140 ∷ 141 ∷ 142 ∷ 143 ∷ 144 ∷ 145 ∷ 146 ∷ 147 ∷ 148 ∷ 149 ∷ 150 ∷ 151 ∷ 152 ∷ 153 ∷ 154 ∷ 155 ∷ [])
-            ∷ [])
-          ∷ [];
-        registers = [];
-        answers = (4, 51) ∷ (7, 60) ∷ [];
-        leaving = [];
-        waiter = false;
-      };
-    }
+      ≡ record {
+        rows =
+            Gives answers.Taken 53 [] (Schedule 1 10 50 ∷ []) (misses ∷ [])
+            ∷ Gives answers.Refused 53 [] [] (refuses ∷ [])
+            ∷ Gives answers.Nothing 53 (Offers 0 5 1 cmds.ReadResp 44 4 (112 ∷ 113 ∷ 114 ∷ 115 ∷ []) ∷ []) [] []
+            ∷ Gives answers.Nothing 53 [] (Schedule 0 0 40 ∷ []) []
+            ∷ Gives answers.Nothing 53 (Offers 0 6 1 cmds.WriteResp 32 8 [] ∷ []) [] []
+            ∷ Gives answers.Nothing 53 [] [] []
+            ∷ Gives answers.Taken 53 (Calls 0 ∷ []) (Schedule 0 0 51 ∷ []) (served_at 4 false 16 (120 ∷ 121 ∷ 122 ∷ 123 ∷ 124 ∷ 125 ∷ 126 ∷ 127 ∷ []) ∷ [])
+            ∷ Gives answers.Taken 53 [] [] []
+            ∷ Gives answers.Nothing 53 (Offers 1 52 4 cmds.Read 48 16 [] ∷ []) [] []
+            ∷ Gives answers.Nothing 53 [] [] []
+            ∷ Gives answers.Taken 53 [] [] []
+            ∷ Gives answers.Taken 53 [] [] []
+            ∷ [];
+        seen = record {
+          lines =
+              (new_line 32 true (180 ∷ 181 ∷ 182 ∷ 183 ∷ 184 ∷ 185 ∷ 186 ∷ 187 ∷ 188 ∷ 189 ∷ 190 ∷ 191 ∷ 192 ∷ 193 ∷ 194 ∷ 195 ∷ [])
+              ∷ [])
+              ∷ (new_line 48 false (160 ∷ 161 ∷ 162 ∷ 163 ∷ 164 ∷ 165 ∷ 166 ∷ 167 ∷ 168 ∷ 169 ∷ 170 ∷ 171 ∷ 172 ∷ 173 ∷ 174 ∷ 175 ∷ [])
+              ∷ new_line 16 true (140 ∷ 141 ∷ 142 ∷ 143 ∷ 144 ∷ 145 ∷ 146 ∷ 147 ∷ 148 ∷ 149 ∷ 150 ∷ 151 ∷ 152 ∷ 153 ∷ 154 ∷ 155 ∷ [])
+              ∷ [])
+              ∷ [];
+          registers = [];
+          answers = (4, 51) ∷ (7, 60) ∷ [];
+          leaving = [];
+          waiter = false;
+        };
+      }
   pub driving_out : told_of driving_out_wakes after_writing_back
-    ≡ record {
-      rows =
-        Gives answers.Taken 53 [] (Schedule 1 10 60 ∷ []) []
-        ∷ Gives answers.Nothing 53 (Offers 0 4 1 cmds.ReadResp 16 8 (120 ∷ 121 ∷ 122 ∷ 123 ∷ 124 ∷ 125 ∷ 126 ∷ 127 ∷ []) ∷ []) [] []
-        ∷ Gives answers.Nothing 53 [] (Schedule 0 0 60 ∷ []) []
-        ∷ Gives answers.Nothing 53
+      ≡ record {
+        rows =
+            Gives answers.Taken 53 [] (Schedule 1 10 60 ∷ []) []
+            ∷ Gives answers.Nothing 53 (Offers 0 4 1 cmds.ReadResp 16 8 (120 ∷ 121 ∷ 122 ∷ 123 ∷ 124 ∷ 125 ∷ 126 ∷ 127 ∷ []) ∷ []) [] []
+            ∷ Gives answers.Nothing 53 [] (Schedule 0 0 60 ∷ []) []
+            ∷ Gives answers.Nothing 53
             (Offers 0 7 9 cmds.ReadResp 48 16 (160 ∷ 161 ∷ 162 ∷ 163 ∷ 164 ∷ 165 ∷ 166 ∷ 167 ∷ 168 ∷ 169 ∷ 170 ∷ 171 ∷ 172 ∷ 173 ∷ 174 ∷ 175 ∷ []) ∷ []) [] []
-        ∷ Gives answers.Nothing 53 [] [] []
-        ∷ Gives answers.Nothing 53 (Offers 1 11 1 cmds.Read 5008 8 [] ∷ []) [] []
-        ∷ Gives answers.Nothing 53 [] [] []
-        ∷ Gives answers.Taken 53 [] (Schedule 0 0 71 ∷ []) []
-        ∷ Gives answers.Taken 53 [] [] (hits ∷ served_at 12 false 20 (144 ∷ 145 ∷ 146 ∷ 147 ∷ []) ∷ [])
-        ∷ Gives answers.Taken 53 [] [] []
-        ∷ Gives answers.Taken 53 [] [] []
-        ∷ Gives answers.Taken 54 [] (Schedule 1 10 75 ∷ []) []
-        ∷ [];
-      seen = record {
-        lines =
-          (new_line 0 true (40 ∷ 41 ∷ 42 ∷ 43 ∷ 44 ∷ 45 ∷ 46 ∷ 47 ∷ 48 ∷ 49 ∷ 50 ∷ 51 ∷ 52 ∷ 53 ∷ 54 ∷ 55 ∷ [])
-            ∷ new_line 32 true (180 ∷ 181 ∷ 182 ∷ 183 ∷ 184 ∷ 185 ∷ 186 ∷ 187 ∷ 188 ∷ 189 ∷ 190 ∷ 191 ∷ 192 ∷ 193 ∷ 194 ∷ 195 ∷ [])
-            ∷ [])
-          ∷ (new_line 48 true (60 ∷ 61 ∷ 62 ∷ 63 ∷ 64 ∷ 65 ∷ 66 ∷ 67 ∷ 68 ∷ 69 ∷ 70 ∷ 71 ∷ 72 ∷ 73 ∷ 74 ∷ 75 ∷ [])
-            ∷ new_line 80 true (20 ∷ 21 ∷ 22 ∷ 23 ∷ 24 ∷ 25 ∷ 26 ∷ 27 ∷ 28 ∷ 29 ∷ 30 ∷ 31 ∷ 32 ∷ 33 ∷ 34 ∷ 35 ∷ [])
-            ∷ [])
-          ∷ [];
-        registers = [];
-        answers = (11, 71) ∷ (12, 72) ∷ [];
-        leaving = (53, 75) ∷ [];
-        waiter = false;
-      };
-    }
+            ∷ Gives answers.Nothing 53 [] [] []
+            ∷ Gives answers.Nothing 53 (Offers 1 11 1 cmds.Read 5008 8 [] ∷ []) [] []
+            ∷ Gives answers.Nothing 53 [] [] []
+            ∷ Gives answers.Taken 53 [] (Schedule 0 0 71 ∷ []) []
+            ∷ Gives answers.Taken 53 [] [] (hits ∷ served_at 12 false 20 (144 ∷ 145 ∷ 146 ∷ 147 ∷ []) ∷ [])
+            ∷ Gives answers.Taken 53 [] [] []
+            ∷ Gives answers.Taken 53 [] [] []
+            ∷ Gives answers.Taken 54 [] (Schedule 1 10 75 ∷ []) []
+            ∷ [];
+        seen = record {
+          lines =
+              (new_line 0 true (40 ∷ 41 ∷ 42 ∷ 43 ∷ 44 ∷ 45 ∷ 46 ∷ 47 ∷ 48 ∷ 49 ∷ 50 ∷ 51 ∷ 52 ∷ 53 ∷ 54 ∷ 55 ∷ [])
+              ∷ new_line 32 true (180 ∷ 181 ∷ 182 ∷ 183 ∷ 184 ∷ 185 ∷ 186 ∷ 187 ∷ 188 ∷ 189 ∷ 190 ∷ 191 ∷ 192 ∷ 193 ∷ 194 ∷ 195 ∷ [])
+              ∷ [])
+              ∷ (new_line 48 true (60 ∷ 61 ∷ 62 ∷ 63 ∷ 64 ∷ 65 ∷ 66 ∷ 67 ∷ 68 ∷ 69 ∷ 70 ∷ 71 ∷ 72 ∷ 73 ∷ 74 ∷ 75 ∷ [])
+              ∷ new_line 80 true (20 ∷ 21 ∷ 22 ∷ 23 ∷ 24 ∷ 25 ∷ 26 ∷ 27 ∷ 28 ∷ 29 ∷ 30 ∷ 31 ∷ 32 ∷ 33 ∷ 34 ∷ 35 ∷ [])
+              ∷ [])
+              ∷ [];
+          registers = [];
+          answers = (11, 71) ∷ (12, 72) ∷ [];
+          leaving = (53, 75) ∷ [];
+          waiter = false;
+        };
+      }
   pub lacking_places : told_of lacking_places_wakes after_driving_out
-    ≡ record {
-      rows =
-        Gives answers.Taken 55 [] [] (misses ∷ [])
-        ∷ Gives answers.Refused 55 [] [] (refuses ∷ [])
-        ∷ Gives answers.Nothing 55 (Offers 0 11 1 cmds.ReadResp 5008 8 (30 ∷ 31 ∷ 32 ∷ 33 ∷ 34 ∷ 35 ∷ 36 ∷ 37 ∷ []) ∷ []) [] []
-        ∷ Gives answers.Nothing 55 [] (Schedule 0 0 72 ∷ []) []
-        ∷ Gives answers.Nothing 55 (Offers 0 12 1 cmds.ReadResp 20 4 (144 ∷ 145 ∷ 146 ∷ 147 ∷ []) ∷ []) [] []
-        ∷ Gives answers.Nothing 55 [] [] []
-        ∷ Gives answers.Nothing 55
+      ≡ record {
+        rows =
+            Gives answers.Taken 55 [] [] (misses ∷ [])
+            ∷ Gives answers.Refused 55 [] [] (refuses ∷ [])
+            ∷ Gives answers.Nothing 55 (Offers 0 11 1 cmds.ReadResp 5008 8 (30 ∷ 31 ∷ 32 ∷ 33 ∷ 34 ∷ 35 ∷ 36 ∷ 37 ∷ []) ∷ []) [] []
+            ∷ Gives answers.Nothing 55 [] (Schedule 0 0 72 ∷ []) []
+            ∷ Gives answers.Nothing 55 (Offers 0 12 1 cmds.ReadResp 20 4 (144 ∷ 145 ∷ 146 ∷ 147 ∷ []) ∷ []) [] []
+            ∷ Gives answers.Nothing 55 [] [] []
+            ∷ Gives answers.Nothing 55
             (Offers 1 53 4 cmds.WriteBack 16 16 (140 ∷ 141 ∷ 142 ∷ 143 ∷ 144 ∷ 145 ∷ 146 ∷ 147 ∷ 148 ∷ 149 ∷ 150 ∷ 151 ∷ 152 ∷ 153 ∷ 154 ∷ 155 ∷ []) ∷ []) [] []
-        ∷ Gives answers.Nothing 55 [] [] []
-        ∷ Gives answers.Refused 55 [] [] (refuses ∷ [])
-        ∷ Gives answers.Nothing 55
+            ∷ Gives answers.Nothing 55 [] [] []
+            ∷ Gives answers.Refused 55 [] [] (refuses ∷ [])
+            ∷ Gives answers.Nothing 55
             (Offers 1 53 4 cmds.WriteBack 16 16 (140 ∷ 141 ∷ 142 ∷ 143 ∷ 144 ∷ 145 ∷ 146 ∷ 147 ∷ 148 ∷ 149 ∷ 150 ∷ 151 ∷ 152 ∷ 153 ∷ 154 ∷ 155 ∷ []) ∷ []) [] []
-        ∷ Gives answers.Nothing 55 (Calls 0 ∷ []) (Schedule 1 10 78 ∷ []) []
-        ∷ Gives answers.Taken 55 [] [] []
-        ∷ [];
-      seen = record {
-        lines =
-          (new_line 0 true (40 ∷ 41 ∷ 42 ∷ 43 ∷ 44 ∷ 45 ∷ 46 ∷ 47 ∷ 48 ∷ 49 ∷ 50 ∷ 51 ∷ 52 ∷ 53 ∷ 54 ∷ 55 ∷ [])
-            ∷ new_line 32 true (180 ∷ 181 ∷ 182 ∷ 183 ∷ 184 ∷ 185 ∷ 186 ∷ 187 ∷ 188 ∷ 189 ∷ 190 ∷ 191 ∷ 192 ∷ 193 ∷ 194 ∷ 195 ∷ [])
-            ∷ [])
-          ∷ (new_line 48 true (60 ∷ 61 ∷ 62 ∷ 63 ∷ 64 ∷ 65 ∷ 66 ∷ 67 ∷ 68 ∷ 69 ∷ 70 ∷ 71 ∷ 72 ∷ 73 ∷ 74 ∷ 75 ∷ [])
-            ∷ new_line 80 true (20 ∷ 21 ∷ 22 ∷ 23 ∷ 24 ∷ 25 ∷ 26 ∷ 27 ∷ 28 ∷ 29 ∷ 30 ∷ 31 ∷ 32 ∷ 33 ∷ 34 ∷ 35 ∷ [])
-            ∷ [])
-          ∷ [];
-        registers = (64, 16 ∷ 17 ∷ []) ∷ [];
-        answers = [];
-        leaving = (54, 76) ∷ [];
-        waiter = false;
-      };
-    }
+            ∷ Gives answers.Nothing 55 (Calls 0 ∷ []) (Schedule 1 10 78 ∷ []) []
+            ∷ Gives answers.Taken 55 [] [] []
+            ∷ [];
+        seen = record {
+          lines =
+              (new_line 0 true (40 ∷ 41 ∷ 42 ∷ 43 ∷ 44 ∷ 45 ∷ 46 ∷ 47 ∷ 48 ∷ 49 ∷ 50 ∷ 51 ∷ 52 ∷ 53 ∷ 54 ∷ 55 ∷ [])
+              ∷ new_line 32 true (180 ∷ 181 ∷ 182 ∷ 183 ∷ 184 ∷ 185 ∷ 186 ∷ 187 ∷ 188 ∷ 189 ∷ 190 ∷ 191 ∷ 192 ∷ 193 ∷ 194 ∷ 195 ∷ [])
+              ∷ [])
+              ∷ (new_line 48 true (60 ∷ 61 ∷ 62 ∷ 63 ∷ 64 ∷ 65 ∷ 66 ∷ 67 ∷ 68 ∷ 69 ∷ 70 ∷ 71 ∷ 72 ∷ 73 ∷ 74 ∷ 75 ∷ [])
+              ∷ new_line 80 true (20 ∷ 21 ∷ 22 ∷ 23 ∷ 24 ∷ 25 ∷ 26 ∷ 27 ∷ 28 ∷ 29 ∷ 30 ∷ 31 ∷ 32 ∷ 33 ∷ 34 ∷ 35 ∷ [])
+              ∷ [])
+              ∷ [];
+          registers = (64, 16 ∷ 17 ∷ []) ∷ [];
+          answers = [];
+          leaving = (54, 76) ∷ [];
+          waiter = false;
+        };
+      }
   pub filling_over_dirty : told_of filling_over_dirty_wakes after_lacking_places
-    ≡ record {
-      rows =
-        Gives answers.Nothing 55 (Offers 1 54 4 cmds.Read 64 16 [] ∷ []) [] []
-        ∷ Gives answers.Nothing 55 [] [] []
-        ∷ Gives answers.Refused 55 [] [] (refuses ∷ [])
-        ∷ Gives answers.Taken 56 (Calls 0 ∷ []) (Schedule 1 10 90 ∷ Schedule 0 0 90 ∷ []) (served_at 16 false 64 (220 ∷ 221 ∷ 222 ∷ 223 ∷ []) ∷ [])
-        ∷ Gives answers.Taken 57 [] [] (misses ∷ [])
-        ∷ Gives answers.Refused 57 [] [] (refuses ∷ [])
-        ∷ Gives answers.Nothing 57 (Offers 0 16 1 cmds.ReadResp 64 4 (220 ∷ 221 ∷ 222 ∷ 223 ∷ []) ∷ []) [] []
-        ∷ Gives answers.Nothing 57 [] [] []
-        ∷ Gives answers.Nothing 57
+      ≡ record {
+        rows =
+            Gives answers.Nothing 55 (Offers 1 54 4 cmds.Read 64 16 [] ∷ []) [] []
+            ∷ Gives answers.Nothing 55 [] [] []
+            ∷ Gives answers.Refused 55 [] [] (refuses ∷ [])
+            ∷ Gives answers.Taken 56 (Calls 0 ∷ []) (Schedule 1 10 90 ∷ Schedule 0 0 90 ∷ []) (served_at 16 false 64 (220 ∷ 221 ∷ 222 ∷ 223 ∷ []) ∷ [])
+            ∷ Gives answers.Taken 57 [] [] (misses ∷ [])
+            ∷ Gives answers.Refused 57 [] [] (refuses ∷ [])
+            ∷ Gives answers.Nothing 57 (Offers 0 16 1 cmds.ReadResp 64 4 (220 ∷ 221 ∷ 222 ∷ 223 ∷ []) ∷ []) [] []
+            ∷ Gives answers.Nothing 57 [] [] []
+            ∷ Gives answers.Nothing 57
             (Offers 1 55 4 cmds.WriteBack 32 16 (180 ∷ 181 ∷ 182 ∷ 183 ∷ 184 ∷ 185 ∷ 186 ∷ 187 ∷ 188 ∷ 189 ∷ 190 ∷ 191 ∷ 192 ∷ 193 ∷ 194 ∷ 195 ∷ []) ∷ []) [] []
-        ∷ Gives answers.Nothing 57 (Calls 0 ∷ []) (Schedule 1 10 91 ∷ []) []
-        ∷ Gives answers.Nothing 57 (Offers 1 56 4 cmds.Read 32 16 [] ∷ []) [] []
-        ∷ Gives answers.Nothing 57 [] [] []
-        ∷ Gives answers.Taken 58 [] (Schedule 1 10 101 ∷ []) (misses ∷ [])
-        ∷ [];
-      seen = record {
-        lines =
-          (new_line 64 true (80 ∷ 81 ∷ 82 ∷ 83 ∷ 84 ∷ 85 ∷ 86 ∷ 87 ∷ 88 ∷ 89 ∷ 90 ∷ 91 ∷ 92 ∷ 93 ∷ 94 ∷ 95 ∷ [])
-            ∷ new_line 0 true (40 ∷ 41 ∷ 42 ∷ 43 ∷ 44 ∷ 45 ∷ 46 ∷ 47 ∷ 48 ∷ 49 ∷ 50 ∷ 51 ∷ 52 ∷ 53 ∷ 54 ∷ 55 ∷ [])
-            ∷ [])
-          ∷ (new_line 48 true (60 ∷ 61 ∷ 62 ∷ 63 ∷ 64 ∷ 65 ∷ 66 ∷ 67 ∷ 68 ∷ 69 ∷ 70 ∷ 71 ∷ 72 ∷ 73 ∷ 74 ∷ 75 ∷ [])
-            ∷ new_line 80 true (20 ∷ 21 ∷ 22 ∷ 23 ∷ 24 ∷ 25 ∷ 26 ∷ 27 ∷ 28 ∷ 29 ∷ 30 ∷ 31 ∷ 32 ∷ 33 ∷ 34 ∷ 35 ∷ [])
-            ∷ [])
-          ∷ [];
-        registers = (32, 18 ∷ []) ∷ (112, 19 ∷ []) ∷ [];
-        answers = [];
-        leaving = (57, 101) ∷ [];
-        waiter = false;
-      };
-    }
+            ∷ Gives answers.Nothing 57 (Calls 0 ∷ []) (Schedule 1 10 91 ∷ []) []
+            ∷ Gives answers.Nothing 57 (Offers 1 56 4 cmds.Read 32 16 [] ∷ []) [] []
+            ∷ Gives answers.Nothing 57 [] [] []
+            ∷ Gives answers.Taken 58 [] (Schedule 1 10 101 ∷ []) (misses ∷ [])
+            ∷ [];
+        seen = record {
+          lines =
+              (new_line 64 true (80 ∷ 81 ∷ 82 ∷ 83 ∷ 84 ∷ 85 ∷ 86 ∷ 87 ∷ 88 ∷ 89 ∷ 90 ∷ 91 ∷ 92 ∷ 93 ∷ 94 ∷ 95 ∷ [])
+              ∷ new_line 0 true (40 ∷ 41 ∷ 42 ∷ 43 ∷ 44 ∷ 45 ∷ 46 ∷ 47 ∷ 48 ∷ 49 ∷ 50 ∷ 51 ∷ 52 ∷ 53 ∷ 54 ∷ 55 ∷ [])
+              ∷ [])
+              ∷ (new_line 48 true (60 ∷ 61 ∷ 62 ∷ 63 ∷ 64 ∷ 65 ∷ 66 ∷ 67 ∷ 68 ∷ 69 ∷ 70 ∷ 71 ∷ 72 ∷ 73 ∷ 74 ∷ 75 ∷ [])
+              ∷ new_line 80 true (20 ∷ 21 ∷ 22 ∷ 23 ∷ 24 ∷ 25 ∷ 26 ∷ 27 ∷ 28 ∷ 29 ∷ 30 ∷ 31 ∷ 32 ∷ 33 ∷ 34 ∷ 35 ∷ [])
+              ∷ [])
+              ∷ [];
+          registers = (32, 18 ∷ []) ∷ (112, 19 ∷ []) ∷ [];
+          answers = [];
+          leaving = (57, 101) ∷ [];
+          waiter = false;
+        };
+      }
   pub staying_blocked : told_of staying_blocked_wakes after_filling_over_dirty
-    ≡ record {
-      rows =
-        Gives answers.Refused 58 [] [] (refuses ∷ [])
-        ∷ Gives answers.Taken 59 [] (Schedule 0 0 105 ∷ []) (served_at 18 false 32 (10 ∷ []) ∷ [])
-        ∷ Gives answers.Nothing 59 (Offers 1 57 4 cmds.Read 112 16 [] ∷ []) [] []
-        ∷ Gives answers.Nothing 59 [] (Schedule 1 10 105 ∷ []) []
-        ∷ Gives answers.Nothing 59 (Offers 0 18 1 cmds.ReadResp 32 1 (10 ∷ []) ∷ []) [] []
-        ∷ Gives answers.Nothing 59 [] [] []
-        ∷ Gives answers.Nothing 59
+      ≡ record {
+        rows =
+            Gives answers.Refused 58 [] [] (refuses ∷ [])
+            ∷ Gives answers.Taken 59 [] (Schedule 0 0 105 ∷ []) (served_at 18 false 32 (10 ∷ []) ∷ [])
+            ∷ Gives answers.Nothing 59 (Offers 1 57 4 cmds.Read 112 16 [] ∷ []) [] []
+            ∷ Gives answers.Nothing 59 [] (Schedule 1 10 105 ∷ []) []
+            ∷ Gives answers.Nothing 59 (Offers 0 18 1 cmds.ReadResp 32 1 (10 ∷ []) ∷ []) [] []
+            ∷ Gives answers.Nothing 59 [] [] []
+            ∷ Gives answers.Nothing 59
             (Offers 1 58 4 cmds.WriteBack 0 16 (40 ∷ 41 ∷ 42 ∷ 43 ∷ 44 ∷ 45 ∷ 46 ∷ 47 ∷ 48 ∷ 49 ∷ 50 ∷ 51 ∷ 52 ∷ 53 ∷ 54 ∷ 55 ∷ []) ∷ []) [] []
-        ∷ Gives answers.Nothing 59 (Calls 0 ∷ []) [] []
-        ∷ Gives answers.Taken 59 [] (Schedule 0 0 116 ∷ []) (hits ∷ served_at 20 true 66 (7 ∷ 8 ∷ []) ∷ [])
-        ∷ Gives answers.Taken 60 [] (Schedule 1 10 117 ∷ []) (misses ∷ [])
-        ∷ Gives answers.Refused 60 [] [] (refuses ∷ [])
-        ∷ Gives answers.Taken 61 [] [] (served_at 19 false 112 (30 ∷ 31 ∷ []) ∷ [])
-        ∷ Gives answers.Nothing 61 (Offers 0 20 1 cmds.WriteResp 66 2 [] ∷ []) [] []
-        ∷ Gives answers.Nothing 61 [] (Schedule 0 0 119 ∷ []) []
-        ∷ Gives answers.Nothing 61 (Offers 1 59 4 cmds.Read 96 16 [] ∷ []) [] []
-        ∷ Gives answers.Nothing 61 [] (Schedule 1 10 119 ∷ []) []
-        ∷ Gives answers.Nothing 61 (Offers 0 19 1 cmds.ReadResp 112 2 (30 ∷ 31 ∷ []) ∷ []) [] []
-        ∷ Gives answers.Nothing 61 [] [] []
-        ∷ Gives answers.Nothing 61
+            ∷ Gives answers.Nothing 59 (Calls 0 ∷ []) [] []
+            ∷ Gives answers.Taken 59 [] (Schedule 0 0 116 ∷ []) (hits ∷ served_at 20 true 66 (7 ∷ 8 ∷ []) ∷ [])
+            ∷ Gives answers.Taken 60 [] (Schedule 1 10 117 ∷ []) (misses ∷ [])
+            ∷ Gives answers.Refused 60 [] [] (refuses ∷ [])
+            ∷ Gives answers.Taken 61 [] [] (served_at 19 false 112 (30 ∷ 31 ∷ []) ∷ [])
+            ∷ Gives answers.Nothing 61 (Offers 0 20 1 cmds.WriteResp 66 2 [] ∷ []) [] []
+            ∷ Gives answers.Nothing 61 [] (Schedule 0 0 119 ∷ []) []
+            ∷ Gives answers.Nothing 61 (Offers 1 59 4 cmds.Read 96 16 [] ∷ []) [] []
+            ∷ Gives answers.Nothing 61 [] (Schedule 1 10 119 ∷ []) []
+            ∷ Gives answers.Nothing 61 (Offers 0 19 1 cmds.ReadResp 112 2 (30 ∷ 31 ∷ []) ∷ []) [] []
+            ∷ Gives answers.Nothing 61 [] [] []
+            ∷ Gives answers.Nothing 61
             (Offers 1 60 4 cmds.WriteBack 80 16 (20 ∷ 21 ∷ 22 ∷ 23 ∷ 24 ∷ 25 ∷ 26 ∷ 27 ∷ 28 ∷ 29 ∷ 30 ∷ 31 ∷ 32 ∷ 33 ∷ 34 ∷ 35 ∷ []) ∷ []) [] []
-        ∷ Gives answers.Nothing 61 (Calls 0 ∷ []) [] []
-        ∷ Gives answers.Taken 61 [] [] (misses ∷ [])
-        ∷ [];
-      seen = record {
-        lines =
-          (new_line 64 true (80 ∷ 81 ∷ 7 ∷ 8 ∷ 84 ∷ 85 ∷ 86 ∷ 87 ∷ 88 ∷ 89 ∷ 90 ∷ 91 ∷ 92 ∷ 93 ∷ 94 ∷ 95 ∷ [])
-            ∷ new_line 32 false (10 ∷ 11 ∷ 12 ∷ 13 ∷ 14 ∷ 15 ∷ 16 ∷ 17 ∷ 18 ∷ 19 ∷ 20 ∷ 21 ∷ 22 ∷ 23 ∷ 24 ∷ 25 ∷ [])
-            ∷ [])
-          ∷ (new_line 112 false (30 ∷ 31 ∷ 32 ∷ 33 ∷ 34 ∷ 35 ∷ 36 ∷ 37 ∷ 38 ∷ 39 ∷ 40 ∷ 41 ∷ 42 ∷ 43 ∷ 44 ∷ 45 ∷ [])
-            ∷ new_line 48 true (60 ∷ 61 ∷ 62 ∷ 63 ∷ 64 ∷ 65 ∷ 66 ∷ 67 ∷ 68 ∷ 69 ∷ 70 ∷ 71 ∷ 72 ∷ 73 ∷ 74 ∷ 75 ∷ [])
-            ∷ [])
-          ∷ [];
-        registers = (96, 21 ∷ 22 ∷ []) ∷ [];
-        answers = [];
-        leaving = [];
-        waiter = false;
-      };
-    }
+            ∷ Gives answers.Nothing 61 (Calls 0 ∷ []) [] []
+            ∷ Gives answers.Taken 61 [] [] (misses ∷ [])
+            ∷ [];
+        seen = record {
+          lines =
+              (new_line 64 true (80 ∷ 81 ∷ 7 ∷ 8 ∷ 84 ∷ 85 ∷ 86 ∷ 87 ∷ 88 ∷ 89 ∷ 90 ∷ 91 ∷ 92 ∷ 93 ∷ 94 ∷ 95 ∷ [])
+              ∷ new_line 32 false (10 ∷ 11 ∷ 12 ∷ 13 ∷ 14 ∷ 15 ∷ 16 ∷ 17 ∷ 18 ∷ 19 ∷ 20 ∷ 21 ∷ 22 ∷ 23 ∷ 24 ∷ 25 ∷ [])
+              ∷ [])
+              ∷ (new_line 112 false (30 ∷ 31 ∷ 32 ∷ 33 ∷ 34 ∷ 35 ∷ 36 ∷ 37 ∷ 38 ∷ 39 ∷ 40 ∷ 41 ∷ 42 ∷ 43 ∷ 44 ∷ 45 ∷ [])
+              ∷ new_line 48 true (60 ∷ 61 ∷ 62 ∷ 63 ∷ 64 ∷ 65 ∷ 66 ∷ 67 ∷ 68 ∷ 69 ∷ 70 ∷ 71 ∷ 72 ∷ 73 ∷ 74 ∷ 75 ∷ [])
+              ∷ [])
+              ∷ [];
+          registers = (96, 21 ∷ 22 ∷ []) ∷ [];
+          answers = [];
+          leaving = [];
+          waiter = false;
+        };
+      }
   pub filling_over_clean : told_of filling_over_clean_wakes after_staying_blocked
-    ≡ record {
-      rows =
-        Gives answers.Taken 61 [] (Schedule 0 0 130 ∷ [])
+      ≡ record {
+        rows =
+            Gives answers.Taken 61 [] (Schedule 0 0 130 ∷ [])
             (served_at 21 true 98 (230 ∷ 231 ∷ 232 ∷ []) ∷ served_at 22 false 96 (130 ∷ 131 ∷ 230 ∷ 231 ∷ 232 ∷ 135 ∷ 136 ∷ 137 ∷ []) ∷ [])
-        ∷ Gives answers.Taken 62 [] (Schedule 1 10 131 ∷ []) []
-        ∷ Gives answers.Taken 62 [] [] []
-        ∷ Gives answers.Taken 63 [] [] []
-        ∷ Gives answers.Refused 63 [] [] (refuses ∷ [])
-        ∷ [];
-      seen = record {
-        lines =
-          (new_line 96 true (130 ∷ 131 ∷ 230 ∷ 231 ∷ 232 ∷ 135 ∷ 136 ∷ 137 ∷ 138 ∷ 139 ∷ 140 ∷ 141 ∷ 142 ∷ 143 ∷ 144 ∷ 145 ∷ [])
-            ∷ new_line 64 true (80 ∷ 81 ∷ 7 ∷ 8 ∷ 84 ∷ 85 ∷ 86 ∷ 87 ∷ 88 ∷ 89 ∷ 90 ∷ 91 ∷ 92 ∷ 93 ∷ 94 ∷ 95 ∷ [])
-            ∷ [])
-          ∷ (new_line 112 true (90 ∷ 91 ∷ 92 ∷ 93 ∷ 94 ∷ 95 ∷ 96 ∷ 97 ∷ 98 ∷ 99 ∷ 100 ∷ 101 ∷ 102 ∷ 103 ∷ 104 ∷ 105 ∷ [])
-            ∷ new_line 48 true (70 ∷ 71 ∷ 72 ∷ 73 ∷ 74 ∷ 75 ∷ 76 ∷ 77 ∷ 78 ∷ 79 ∷ 80 ∷ 81 ∷ 82 ∷ 83 ∷ 84 ∷ 85 ∷ [])
-            ∷ [])
-          ∷ [];
-        registers = [];
-        answers = (21, 130) ∷ (22, 130) ∷ [];
-        leaving = (61, 131) ∷ (62, 133) ∷ [];
-        waiter = true;
-      };
-    }
+            ∷ Gives answers.Taken 62 [] (Schedule 1 10 131 ∷ []) []
+            ∷ Gives answers.Taken 62 [] [] []
+            ∷ Gives answers.Taken 63 [] [] []
+            ∷ Gives answers.Refused 63 [] [] (refuses ∷ [])
+            ∷ [];
+        seen = record {
+          lines =
+              (new_line 96 true (130 ∷ 131 ∷ 230 ∷ 231 ∷ 232 ∷ 135 ∷ 136 ∷ 137 ∷ 138 ∷ 139 ∷ 140 ∷ 141 ∷ 142 ∷ 143 ∷ 144 ∷ 145 ∷ [])
+              ∷ new_line 64 true (80 ∷ 81 ∷ 7 ∷ 8 ∷ 84 ∷ 85 ∷ 86 ∷ 87 ∷ 88 ∷ 89 ∷ 90 ∷ 91 ∷ 92 ∷ 93 ∷ 94 ∷ 95 ∷ [])
+              ∷ [])
+              ∷ (new_line 112 true (90 ∷ 91 ∷ 92 ∷ 93 ∷ 94 ∷ 95 ∷ 96 ∷ 97 ∷ 98 ∷ 99 ∷ 100 ∷ 101 ∷ 102 ∷ 103 ∷ 104 ∷ 105 ∷ [])
+              ∷ new_line 48 true (70 ∷ 71 ∷ 72 ∷ 73 ∷ 74 ∷ 75 ∷ 76 ∷ 77 ∷ 78 ∷ 79 ∷ 80 ∷ 81 ∷ 82 ∷ 83 ∷ 84 ∷ 85 ∷ [])
+              ∷ [])
+              ∷ [];
+          registers = [];
+          answers = (21, 130) ∷ (22, 130) ∷ [];
+          leaving = (61, 131) ∷ (62, 133) ∷ [];
+          waiter = true;
+        };
+      }
   pub ending : told_of ending_wakes after_filling_over_clean
-    ≡ record {
-      rows =
-        Gives answers.Nothing 63 (Offers 0 21 1 cmds.WriteResp 98 3 [] ∷ []) [] []
-        ∷ Gives answers.Nothing 63 [] (Schedule 0 0 130 ∷ []) []
-        ∷ Gives answers.Nothing 63 (Offers 0 22 1 cmds.ReadResp 96 8 (130 ∷ 131 ∷ 230 ∷ 231 ∷ 232 ∷ 135 ∷ 136 ∷ 137 ∷ []) ∷ []) [] []
-        ∷ Gives answers.Nothing 63 [] [] []
-        ∷ Gives answers.Nothing 63
+      ≡ record {
+        rows =
+            Gives answers.Nothing 63 (Offers 0 21 1 cmds.WriteResp 98 3 [] ∷ []) [] []
+            ∷ Gives answers.Nothing 63 [] (Schedule 0 0 130 ∷ []) []
+            ∷ Gives answers.Nothing 63 (Offers 0 22 1 cmds.ReadResp 96 8 (130 ∷ 131 ∷ 230 ∷ 231 ∷ 232 ∷ 135 ∷ 136 ∷ 137 ∷ []) ∷ []) [] []
+            ∷ Gives answers.Nothing 63 [] [] []
+            ∷ Gives answers.Nothing 63
             (Offers 1 61 4 cmds.WriteBack 48 16 (60 ∷ 61 ∷ 62 ∷ 63 ∷ 64 ∷ 65 ∷ 66 ∷ 67 ∷ 68 ∷ 69 ∷ 70 ∷ 71 ∷ 72 ∷ 73 ∷ 74 ∷ 75 ∷ []) ∷ []) [] []
-        ∷ Gives answers.Nothing 63 (Calls 0 ∷ []) (Schedule 1 10 133 ∷ []) []
-        ∷ Gives answers.Nothing 63
+            ∷ Gives answers.Nothing 63 (Calls 0 ∷ []) (Schedule 1 10 133 ∷ []) []
+            ∷ Gives answers.Nothing 63
             (Offers 1 62 4 cmds.WriteBack 16 16 (50 ∷ 51 ∷ 52 ∷ 53 ∷ 54 ∷ 55 ∷ 56 ∷ 57 ∷ 58 ∷ 59 ∷ 60 ∷ 61 ∷ 62 ∷ 63 ∷ 64 ∷ 65 ∷ []) ∷ []) [] []
-        ∷ Gives answers.Nothing 63 [] [] []
-        ∷ Gives answers.Taken 63 [] (Schedule 0 0 144 ∷ []) (hits ∷ served_at 26 false 64 (80 ∷ 81 ∷ 7 ∷ 8 ∷ []) ∷ [])
-        ∷ Gives answers.Nothing 63 (Offers 0 26 1 cmds.ReadResp 64 4 (80 ∷ 81 ∷ 7 ∷ 8 ∷ []) ∷ []) [] []
-        ∷ Gives answers.Nothing 63 [] [] []
-        ∷ [];
-      seen = record {
-        lines =
-          (new_line 64 true (80 ∷ 81 ∷ 7 ∷ 8 ∷ 84 ∷ 85 ∷ 86 ∷ 87 ∷ 88 ∷ 89 ∷ 90 ∷ 91 ∷ 92 ∷ 93 ∷ 94 ∷ 95 ∷ [])
-            ∷ new_line 96 true (130 ∷ 131 ∷ 230 ∷ 231 ∷ 232 ∷ 135 ∷ 136 ∷ 137 ∷ 138 ∷ 139 ∷ 140 ∷ 141 ∷ 142 ∷ 143 ∷ 144 ∷ 145 ∷ [])
-            ∷ [])
-          ∷ (new_line 112 true (90 ∷ 91 ∷ 92 ∷ 93 ∷ 94 ∷ 95 ∷ 96 ∷ 97 ∷ 98 ∷ 99 ∷ 100 ∷ 101 ∷ 102 ∷ 103 ∷ 104 ∷ 105 ∷ [])
-            ∷ new_line 48 true (70 ∷ 71 ∷ 72 ∷ 73 ∷ 74 ∷ 75 ∷ 76 ∷ 77 ∷ 78 ∷ 79 ∷ 80 ∷ 81 ∷ 82 ∷ 83 ∷ 84 ∷ 85 ∷ [])
-            ∷ [])
-          ∷ [];
-        registers = [];
-        answers = [];
-        leaving = [];
-        waiter = false;
-      };
-    }
+            ∷ Gives answers.Nothing 63 [] [] []
+            ∷ Gives answers.Taken 63 [] (Schedule 0 0 144 ∷ []) (hits ∷ served_at 26 false 64 (80 ∷ 81 ∷ 7 ∷ 8 ∷ []) ∷ [])
+            ∷ Gives answers.Nothing 63 (Offers 0 26 1 cmds.ReadResp 64 4 (80 ∷ 81 ∷ 7 ∷ 8 ∷ []) ∷ []) [] []
+            ∷ Gives answers.Nothing 63 [] [] []
+            ∷ [];
+        seen = record {
+          lines =
+              (new_line 64 true (80 ∷ 81 ∷ 7 ∷ 8 ∷ 84 ∷ 85 ∷ 86 ∷ 87 ∷ 88 ∷ 89 ∷ 90 ∷ 91 ∷ 92 ∷ 93 ∷ 94 ∷ 95 ∷ [])
+              ∷ new_line 96 true (130 ∷ 131 ∷ 230 ∷ 231 ∷ 232 ∷ 135 ∷ 136 ∷ 137 ∷ 138 ∷ 139 ∷ 140 ∷ 141 ∷ 142 ∷ 143 ∷ 144 ∷ 145 ∷ [])
+              ∷ [])
+              ∷ (new_line 112 true (90 ∷ 91 ∷ 92 ∷ 93 ∷ 94 ∷ 95 ∷ 96 ∷ 97 ∷ 98 ∷ 99 ∷ 100 ∷ 101 ∷ 102 ∷ 103 ∷ 104 ∷ 105 ∷ [])
+              ∷ new_line 48 true (70 ∷ 71 ∷ 72 ∷ 73 ∷ 74 ∷ 75 ∷ 76 ∷ 77 ∷ 78 ∷ 79 ∷ 80 ∷ 81 ∷ 82 ∷ 83 ∷ 84 ∷ 85 ∷ [])
+              ∷ [])
+              ∷ [];
+          registers = [];
+          answers = [];
+          leaving = [];
+          waiter = false;
+        };
+      }
   pub using_registers : told_of using_registers_wakes (small_cache 4)
-    ≡ record {
-      rows =
-        Gives answers.Taken 51 [] (Schedule 1 10 10 ∷ []) (misses ∷ [])
-        ∷ Gives answers.Taken 52 [] [] (misses ∷ [])
-        ∷ Gives answers.Refused 52 [] [] (refuses ∷ [])
-        ∷ Gives answers.Nothing 52 (Offers 1 50 4 cmds.Read 0 16 [] ∷ []) [] []
-        ∷ Gives answers.Nothing 52 [] (Schedule 1 10 11 ∷ []) []
-        ∷ Gives answers.Nothing 52 (Offers 1 51 4 cmds.Read 16 16 [] ∷ []) [] []
-        ∷ Gives answers.Nothing 52 [] [] []
-        ∷ Gives answers.Taken 52 (Calls 0 ∷ []) (Schedule 0 0 22 ∷ []) (served_at 1 false 0 (100 ∷ 101 ∷ 102 ∷ 103 ∷ []) ∷ [])
-        ∷ [];
-      seen = record {
-        lines =
-          (new_line 0 false (100 ∷ 101 ∷ 102 ∷ 103 ∷ 104 ∷ 105 ∷ 106 ∷ 107 ∷ 108 ∷ 109 ∷ 110 ∷ 111 ∷ 112 ∷ 113 ∷ 114 ∷ 115 ∷ [])
-            ∷ [])
-          ∷ []
-          ∷ [];
-        registers = (16, 2 ∷ []) ∷ [];
-        answers = (1, 22) ∷ [];
-        leaving = [];
-        waiter = false;
-      };
-    }
+      ≡ record {
+        rows =
+            Gives answers.Taken 51 [] (Schedule 1 10 10 ∷ []) (misses ∷ [])
+            ∷ Gives answers.Taken 52 [] [] (misses ∷ [])
+            ∷ Gives answers.Refused 52 [] [] (refuses ∷ [])
+            ∷ Gives answers.Nothing 52 (Offers 1 50 4 cmds.Read 0 16 [] ∷ []) [] []
+            ∷ Gives answers.Nothing 52 [] (Schedule 1 10 11 ∷ []) []
+            ∷ Gives answers.Nothing 52 (Offers 1 51 4 cmds.Read 16 16 [] ∷ []) [] []
+            ∷ Gives answers.Nothing 52 [] [] []
+            ∷ Gives answers.Taken 52 (Calls 0 ∷ []) (Schedule 0 0 22 ∷ []) (served_at 1 false 0 (100 ∷ 101 ∷ 102 ∷ 103 ∷ []) ∷ [])
+            ∷ [];
+        seen = record {
+          lines =
+              (new_line 0 false (100 ∷ 101 ∷ 102 ∷ 103 ∷ 104 ∷ 105 ∷ 106 ∷ 107 ∷ 108 ∷ 109 ∷ 110 ∷ 111 ∷ 112 ∷ 113 ∷ 114 ∷ 115 ∷ [])
+              ∷ [])
+              ∷ []
+              ∷ [];
+          registers = (16, 2 ∷ []) ∷ [];
+          answers = (1, 22) ∷ [];
+          leaving = [];
+          waiter = false;
+        };
+      }
 
 -- reads without time: the line has its bytes, also where an older write-back of it leaves; else a write-back has them, as it waits for its
 -- line or leaves; and another read is left as it is
 pub record ReadsWithoutTime : Type 0 where
   pub of_a_write_back_that_waits : cache_functional after_lacking_places.cache (read_of 200 66 4)
-    ≡ read_response (read_of 200 66 4) (82 ∷ 83 ∷ 84 ∷ 85 ∷ [])
+      ≡ read_response (read_of 200 66 4) (82 ∷ 83 ∷ 84 ∷ 85 ∷ [])
   pub of_a_line : cache_functional after_filling_over_clean.cache (read_of 200 52 4)
-    ≡ read_response (read_of 200 52 4) (74 ∷ 75 ∷ 76 ∷ 77 ∷ [])
+      ≡ read_response (read_of 200 52 4) (74 ∷ 75 ∷ 76 ∷ 77 ∷ [])
   pub of_a_write_back_that_leaves : cache_functional after_filling_over_clean.cache (read_of 200 18 8)
-    ≡ read_response (read_of 200 18 8) (52 ∷ 53 ∷ 54 ∷ 55 ∷ 56 ∷ 57 ∷ 58 ∷ 59 ∷ [])
+      ≡ read_response (read_of 200 18 8) (52 ∷ 53 ∷ 54 ∷ 55 ∷ 56 ∷ 57 ∷ 58 ∷ 59 ∷ [])
   pub of_nobody : cache_functional after_filling_over_clean.cache (read_of 200 144 4) ≡ read_of 200 144 4
