@@ -6,3 +6,4 @@ pub mod Serving
 pub mod Parts
 pub mod Wakes
 pub mod Waiting
+pub mod Examples
