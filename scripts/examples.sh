@@ -1,7 +1,8 @@
 #!/bin/sh
 # Checks the examples, by hand, from the top of the repository: each shipped image is the one that `gemcore asm` makes of its
 # source, each example writes what is stored beside it, and a C program compiled at -O0 and at -O2 runs over flat memory and in a
-# machine of each model. The last part is skipped where riscv64-unknown-elf-gcc is missing. GEMCORE names another program than bin/gemcore.
+# machine of each model. The last part is skipped where neither riscv64-unknown-elf-gcc nor clang with ld.lld is there. GEMCORE names
+# another program than bin/gemcore.
 set -eu
 cd "$(dirname "$0")/.."
 gemcore=${GEMCORE:-bin/gemcore}
@@ -39,16 +40,17 @@ expect examples/timer.console examples/timer.timing.report run "$timed" examples
 python3 scripts/example_cases.py --check
 echo "the tests of gc_cli have the examples as they stand"
 
-if ! command -v riscv64-unknown-elf-gcc >/dev/null; then
-    echo "skipped: riscv64-unknown-elf-gcc is missing"
+if ! command -v riscv64-unknown-elf-gcc >/dev/null && ! command -v ld.lld >/dev/null; then
+    echo "skipped: riscv64-unknown-elf-gcc is missing, and so is ld.lld"
     exit 0
 fi
 for level in -O0 -O2; do
-    examples/c/build.sh "$folder/primes.elf" "$level" examples/c/primes.c
-    "$gemcore" flat "$folder/primes.elf" 1000000 >"$folder/flat.console" 2>"$folder/flat.report"
-    "$gemcore" run "$machine" "$folder/primes.elf" examples/hello.script >"$folder/run.console" 2>"$folder/run.report"
+    make -s -C examples/c OUT="$folder/c$level" OPTIMIZE="$level"
+    primes=$folder/c$level/primes.elf
+    "$gemcore" flat "$primes" 1000000 >"$folder/flat.console" 2>"$folder/flat.report"
+    "$gemcore" run "$machine" "$primes" examples/hello.script >"$folder/run.console" 2>"$folder/run.report"
     printf '2 3 5 7 11 13 17 19 23 29 31 37 41 43 47 53 59 61 67 71 73 79 83 89 97\n' >"$folder/expected"
-    "$gemcore" run "$timed" "$folder/primes.elf" examples/hello.script >"$folder/timed.console" 2>"$folder/timed.report"
+    "$gemcore" run "$timed" "$primes" examples/hello.script >"$folder/timed.console" 2>"$folder/timed.report"
     cmp "$folder/flat.console" "$folder/expected"
     cmp "$folder/run.console" "$folder/expected"
     cmp "$folder/timed.console" "$folder/expected"
