@@ -131,17 +131,31 @@ arrived a now s₀ s s₁ q₀ q o₀ o w e es = w s₁ q o (λ m r₀ p₀ st.
       out = st.out;
     }))
 
+-- the first who waits, and the others
 pub first_of : (a : ℕ) (rs : List Register) (p : Packet) → slice_get (targets_of a rs) 0 ≡ Some p → targets_of a rs ≡ p ∷ drop 1 (targets_of a rs)
 first_of a rs p e = by (targets_of a rs) e where
+  some : (x y : Packet) → Some x ≡ Some y → x ≡ y
+  some x y h = cc
+
   by : (l : List Packet) → slice_get l 0 ≡ Some p → l ≡ p ∷ drop 1 l
   by [] h = absurd (cc)
   by (x ∷ l) h = ap (λ (y : Packet). y ∷ l) (some x p h)
 
-  some : (x y : Packet) → Some x ≡ Some y → x ≡ y
-  some x y h = cc
+-- once the first is taken out, one less waits
+pub one_left : (a : ℕ) (rs : List Register) (p : Packet) → slice_get (targets_of a rs) 0 ≡ Some p → length (targets_of a rs) ≡ 1 + length (targets_of a (first_gone a rs))
+one_left a rs p e =
+    let first = first_of a rs p e in
+    let left : targets_of a (first_gone a rs) ≡ drop 1 (targets_of a rs) = targets-with a (drop 1 (targets_of a rs)) (drop 1 (targets_of a rs)) p rs first in
+    some_more (targets_of a rs) p (targets_of a (first_gone a rs)) (first ∙ ap (λ (l : List Packet). p ∷ l) (sym left)) where
+  some_more : (l : List Packet) (p : Packet) (ls : List Packet) → l ≡ p ∷ ls → length l ≡ 1 + length ls
+  some_more l p ls e = omega (arith, ap (λ (l : List Packet). length l) e)
 
 pub none_of : (a : ℕ) (rs : List Register) → slice_get (targets_of a rs) 0 ≡ None → targets_of a rs ≡ []
 none_of a rs e = by (targets_of a rs) e where
   by : (l : List Packet) → slice_get l 0 ≡ None → l ≡ []
   by [] h = refl
   by (x ∷ l) h = absurd (cc)
+
+-- where nobody waits, nobody is taken out
+pub none_gone : (a : ℕ) (rs : List Register) → targets_of a rs ≡ [] → targets_of a (first_gone a rs) ≡ []
+none_gone a rs e = ap (λ (l : List Register). targets_of a l) (ap (λ (l : List Packet). with_targets a (drop 1 l) rs) e ∙ sym (ap (λ (l : List Packet). with_targets a l rs) e) ∙ with-same a rs) ∙ e

@@ -65,7 +65,6 @@ impl Lines {
         match self.tags.find(addr) {
             Some(at) => {
                 self.tags.touch(at);
-                self.serve_at(at, (p.addr - addr) as u32, p);
                 true
             }
             None => false,

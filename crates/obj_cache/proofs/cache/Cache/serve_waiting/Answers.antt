@@ -1,66 +1,68 @@
-use Rattle.std.proofs.Common.{rules, ◌≡◌, ℕ, ◌+◌, ◌-◌, ◌%◌, ◌^◌, List, ◌<◌, ◌≤◌, ◌==◌, ◌||◌, [], length, true, false, None, IsTrue, IfOk, Option, is_some, unwrap_or, ◌*◌, ◌/◌, Bool, nat_eq, nat_lt, ◌∷◌, ◌++◌, slice_index_or, slice_set, bit_and, bit_or, Fits, w8, w32, w64, Bor, MutBor}
-use Rattle.std.specs.Option.{option_map}
-use Rattle.std.specs.Int.{is_power_of_two}
-use Rattle.gc_base.specs.declared.limits.TheConstants.{LATENCY_MAX}
-use Rattle.ev_queue.specs.Queue.{Queue}
-use Rattle.pkt_pool.specs.declared.packet.Packet.{Packet}
-use Rattle.cache_tags.specs.Line.{Line, new_line, padded, victim}
-use Rattle.pkt_pool.specs.Packet.{carried_bytes}
-use Rattle.gm_words.specs.Allowed.{MayPass, MayCome}
-use Rattle.gm_words.specs.Entries.{served_entries}
-use Rattle.gm_cache.specs.State.{cache_start, base_of, line_in, find_register, packets_in}
-use Rattle.gm_cache.specs.Rule.{is_blocked, sending_above, sending_below, noting, requesting, evicting, installing, serving, serving_all, calling, access_in, back_in, cached_in, taking, is_cached, is_fill, fits, returning, fill_in, from_above, port_moved, sent_in, later, with_registers, offered, cache_step, cache_functional}
-use Rattle.gm_model.specs.Flows.{ask_in, hold_in, again_in}
-use Rattle.obj_core.specs.Out.{Out, HasRoom}
-use Rattle.obj_cache.specs.Held.{IsTarget, is_full, targets_of, with_targets}
-use Rattle.obj_cache.specs.Step.{HasBoth, Goes, Wakes}
-use Rattle.obj_cache.specs.Shown.{shown, most_held, StaysAs}
+use Rattle.std.proofs.Common.{◌≡◌, refl, ◌+◌, ◌∙◌, ap, arith, sym, subst, length, drop}
+use Rattle.gm_cache.specs.State.{CacheState}
+use Rattle.obj_cache.specs.Held.{targets_of, first_gone, Held}
+use Rattle.obj_cache.specs.Shown.{shown}
+use Rattle.obj_cache.specs.Step.{HasBoth}
+use Rattle.obj_cache.proofs.Coming.{with_used_registers}
+use Rattle.obj_cache.proofs.Waiting.{IsOnWay, goes_on, arrived, first_of, one_left, none_of, none_gone}
 use Rattle.obj_cache.proofs.cache.Cache.serve_waiting.Goals as goal
 
--- src/cache.rt:223:9
 pub loop-p-init : goal.loop-p-init
-loop-p-init c = ?
+loop-p-init c = record {
+  way = λ s' q' o' h. h;
+  room = omega (arith, c.requires.room);
+  entries = omega (arith, c.requires.entries);
+  table = refl;
+  stays = record { object = refl; line = refl };
+  leaving = refl;
+  items = refl;
+}
 
--- src/cache.rt:224:13
 pub serve-requires-clause-room : goal.serve-requires-clause-room
-serve-requires-clause-room c = ?
+serve-requires-clause-room c =
+    let left = one_left c.args.addr c.loop-p.self.registers.used c.in-Some.p (sym c.take_first.ensures.first ∙ c.in-Some.is) in
+    omega (arith, left, c.loop-p.invariant.room)
 
--- src/cache.rt:224:13
 pub serve-requires-clause-entries : goal.serve-requires-clause-entries
-serve-requires-clause-entries c = ?
+serve-requires-clause-entries c =
+    let left = one_left c.args.addr c.loop-p.self.registers.used c.in-Some.p (sym c.take_first.ensures.first ∙ c.in-Some.is) in
+    omega (arith, left, c.loop-p.invariant.entries)
 
--- src/cache.rt:224:13
 pub serve-requires-clause-handles : goal.serve-requires-clause-handles
-serve-requires-clause-handles c = ?
+serve-requires-clause-handles c =
+    subst (λ t. HasBoth t c.loop-p.self.object.0) (sym c.loop-p.invariant.table) (subst (λ i. HasBoth c.args.q.now.table i) (sym c.loop-p.invariant.stays.object) c.requires.handles)
 
--- src/cache.rt:223:9
 pub loop-p-smaller : goal.loop-p-smaller
-loop-p-smaller c = ?
+loop-p-smaller c =
+    let left = one_left c.args.addr c.loop-p.self.registers.used c.in-Some.p (sym c.take_first.ensures.first ∙ c.in-Some.is) in
+    let kept = ap (λ (h : Held). length (targets_of c.args.addr h.used)) (c.serve.ensures.registers ∙ c.take_first.ensures.rest) in
+    omega (arith, kept, left)
 
--- src/cache.rt:223:9
 pub loop-p-preserved : goal.loop-p-preserved
-loop-p-preserved c = ?
+loop-p-preserved c =
+    let rs = c.loop-p.self.registers.used in
+    let p = c.in-Some.p in
+    let some = sym c.take_first.ensures.first ∙ c.in-Some.is in
+    let left = one_left c.args.addr rs p some in
+    let kept = ap (λ (h : Held). length (targets_of c.args.addr h.used)) (c.serve.ensures.registers ∙ c.take_first.ensures.rest) in
+    record {
+      way = goes_on c.args.addr c.args.now p (drop 1 (targets_of c.args.addr rs)) (shown c.args.self.now) (shown c.loop-p.self) _ (shown c.serve.new.self)
+          c.args.q.now c.loop-p.q c.serve.new.q c.args.out.now c.loop-p.out c.serve.new.out c.loop-p.invariant.way (first_of c.args.addr rs p some)
+          (ap (with_used_registers (shown c.loop-p.self)) c.take_first.ensures.rest) c.serve.ensures.step;
+      room = omega (arith, kept, left, c.loop-p.invariant.room, c.serve.ensures.few);
+      entries = omega (arith, kept, left, c.loop-p.invariant.entries, c.serve.ensures.entries);
+      table = c.serve.ensures.handles ∙ c.loop-p.invariant.table;
+      stays = record { object = c.serve.ensures.stays.object ∙ c.loop-p.invariant.stays.object; line = c.serve.ensures.stays.line ∙ c.loop-p.invariant.stays.line };
+      leaving = c.serve.ensures.leaving ∙ c.loop-p.invariant.leaving;
+      items = c.serve.ensures.items ∙ c.loop-p.invariant.items;
+    }
 
--- src/cache.rt:209:5
 pub returns-clause-step : goal.returns-clause-step
-returns-clause-step c = ?
+returns-clause-step c =
+    arrived c.args.addr c.args.now (shown c.args.self.now) (shown c.loop-p.self) _ c.args.q.now c.loop-p.q c.args.out.now c.loop-p.out c.loop-p.invariant.way
+    (none_of c.args.addr c.loop-p.self.registers.used (sym c.take_first.ensures.first ∙ c.in_default.is)) (ap (with_used_registers (shown c.loop-p.self)) c.take_first.ensures.rest)
 
--- src/cache.rt:209:5
 pub returns-clause-none : goal.returns-clause-none
-returns-clause-none c = ?
-
--- src/cache.rt:209:5
-pub returns-clause-handles : goal.returns-clause-handles
-returns-clause-handles c = ?
-
--- src/cache.rt:209:5
-pub returns-clause-stays : goal.returns-clause-stays
-returns-clause-stays c = ?
-
--- src/cache.rt:209:5
-pub returns-clause-leaving : goal.returns-clause-leaving
-returns-clause-leaving c = ?
-
--- src/cache.rt:209:5
-pub returns-clause-items : goal.returns-clause-items
-returns-clause-items c = ?
+returns-clause-none c =
+    ap (λ (h : Held). targets_of c.args.addr h.used) c.take_first.ensures.rest
+    ∙ none_gone c.args.addr c.loop-p.self.registers.used (none_of c.args.addr c.loop-p.self.registers.used (sym c.take_first.ensures.first ∙ c.in_default.is))
