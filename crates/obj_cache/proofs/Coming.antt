@@ -58,7 +58,7 @@ access_hits a x now s s' q q' o o₁ o' e k h =
     (noted_then (hit s.common.object) (serving_in (Some l) x now) s s' q q' o o₁ o' k
     (subst (λ (v : Option Line). Goes (serving_in v x now) s s' q q' o₁ o') f (goes_for (λ c. serving_in (line_in c a) x now) s s' q q' o₁ o' h)))))
 
-register_by : (A : Type 0) (v : Option Register) → is_some v ≡ true → ((r : Register) → v ≡ Some r → A) → A
+pub register_by : (A : Type 0) (v : Option Register) → is_some v ≡ true → ((r : Register) → v ≡ Some r → A) → A
 register_by A None e f = absurd (cc)
 register_by A (Some r) e f = f r refl
 

@@ -396,6 +396,7 @@ impl Cache {
     fn fill(&mut self, p: &Packet, now: Tick, q: &mut EventQueue, out: &mut Outbox)
         requires fill { is_fill (shown self.old) p.now ≡ true }
         requires there { is_some (find_register p.now.addr self.old.registers.used) ≡ true }
+        requires most { length (targets_of p.now.addr self.old.registers.used) ≤ 16 }
         requires size { MayPass p.now }
         requires tick { now ≤ TOP }
         requires few { length (packets_in (shown self.old)) ≤ most_held }
