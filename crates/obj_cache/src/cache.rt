@@ -9,6 +9,7 @@ ghost use Rattle.cache_tags.specs.Line.{Line, new_line, padded, victim};
 ghost use Rattle.pkt_pool.specs.Packet.{carried_bytes};
 ghost use Rattle.gm_words.specs.Allowed.{MayPass, MayCome};
 ghost use Rattle.gm_words.specs.Entries.{served_entries};
+ghost use Rattle.gm_words.specs.declared.answer.Answer.TheVariants.{Nothing};
 ghost use Rattle.gm_cache.specs.State.{cache_start, base_of, line_in, find_register, packets_in};
 ghost use Rattle.gm_cache.specs.Rule.{is_blocked, sending_above, sending_below, noting, requesting, evicting, installing, serving, serving_all, calling, access_in, back_in, cached_in, taking, is_cached, is_fill, fits, returning, fill_in, from_above, port_moved, sent_in, later, with_registers, offered, cache_step, cache_functional};
 ghost use Rattle.gm_model.specs.Flows.{ask_in, hold_in, again_in};
@@ -418,7 +419,8 @@ impl Cache {
     /// At its event the first packet of a queue is offered.
     fn ask(&mut self, port: u8, out: &mut Outbox)
         requires { length out.old.items < 272 }
-        ensures { (q : Queue) → Goes (port_moved port (ask_in 0) (ask_in 1)) (shown self.old) (shown self.new) q q out.old out.new }
+        ensures step { (q : Queue) → Goes (port_moved port (ask_in 0) (ask_in 1)) (shown self.old) (shown self.new) q q out.old out.new }
+        ensures items { length out.new.items ≤ length out.old.items + 1 }
     {
         if port == 0 {
             self.answers.ask(ABOVE, out);
@@ -441,7 +443,8 @@ impl Cache {
     /// What waits in a queue is offered again.
     fn ask_again(&mut self, port: u8, out: &mut Outbox)
         requires { length out.old.items < 272 }
-        ensures { (q : Queue) → Goes (port_moved port (again_in 0) (again_in 1)) (shown self.old) (shown self.new) q q out.old out.new }
+        ensures step { (q : Queue) → Goes (port_moved port (again_in 0) (again_in 1)) (shown self.old) (shown self.new) q q out.old out.new }
+        ensures items { length out.new.items ≤ length out.old.items + 1 }
     {
         if port == 0 {
             self.answers.ask_again(ABOVE, out);
@@ -474,13 +477,33 @@ impl Cache {
         ensures { Wakes (cache_step (shown self.old) out.old.next w.now now) q.old out.old (shown self.new) q.new out.new result }
     {
         match w {
-            Wake::Offer { port, pkt } => return self.offered(*port, pkt, now, q, out),
-            Wake::Event { slot } => self.ask(slot.0, out),
-            Wake::Taken { port } => self.sent(port.0, now, q),
-            Wake::Refused { port } => self.hold(port.0),
-            Wake::Retry { port } => self.ask_again(port.0, out),
-            Wake::Line { .. } | Wake::AtomicDone { .. } => return Answer::Nothing,
+            Wake::Offer { port, pkt } => self.offered(*port, pkt, now, q, out),
+            Wake::Event { slot } => {
+                self.ask(slot.0, out);
+                self.ended(out)
+            }
+            Wake::Taken { port } => {
+                self.sent(port.0, now, q);
+                self.ended(out)
+            }
+            Wake::Refused { port } => {
+                self.hold(port.0);
+                self.ended(out)
+            }
+            Wake::Retry { port } => {
+                self.ask_again(port.0, out);
+                self.ended(out)
+            }
+            Wake::Line { .. } | Wake::AtomicDone { .. } => Answer::Nothing,
         }
+    }
+
+    /// The end of a wake that has no answer: who waits is called.
+    fn ended(&mut self, out: &mut Outbox) -> Answer
+        requires { length out.old.items < 272 }
+        ensures called { (q : Queue) → Goes calling (shown self.old) (shown self.new) q q out.old out.new }
+        ensures answer { result ≡ Nothing }
+    {
         self.call_waiter(out);
         Answer::Nothing
     }
