@@ -1,11 +1,11 @@
 -- The lines of a cache, as its tags keep them and as contracts see them.
-use Rattle.std.proofs.Common.{◌≡◌, ℕ, zero, suc, ◌+◌, ◌-◌, ◌*◌, ◌/◌, ◌%◌, ◌<◌, ◌≤◌, ◌==◌, if◌then◌else◌, true, List, [], ◌∷◌, length, take, drop, map, replicate, refl, sym, ◌∙◌, ap, subst, arith, eq-eqb, ne_eqb, Option, Some, None, ◌⊎◌, inl, inr, IsTrue}
+use Rattle.std.proofs.Common.{◌≡◌, ℕ, zero, suc, ◌+◌, ◌-◌, ◌*◌, ◌/◌, ◌%◌, ◌<◌, ◌≤◌, ◌==◌, if◌then◌else◌, true, false, List, [], ◌∷◌, length, take, drop, map, replicate, refl, sym, ◌∙◌, ap, subst, arith, eq-eqb, ne_eqb, Option, Some, None, ◌⊎◌, inl, inr, IsTrue}
 use Rattle.std.specs.Prelude.{find, count_by, is_some, IfSome, slice_index_or, slice_set}
 use Rattle.std.specs.Option.{option_map}
 use Rattle.std.proofs.lemmas.Bool.{cases_eq, and_parts, eqb-true, leb-true}
 use Rattle.std.proofs.lemmas.List.{length-map, set-set, get_or-set_same}
 use Rattle.std.proofs.lemmas.List.Sums.{sum_by-cons}
-use Rattle.std.proofs.lemmas.Nat.{div-add-mod', div-mul-add}
+use Rattle.std.proofs.lemmas.Nat.{div-add-mod', div-mul-add, mod-mul-add}
 use Rattle.cache_tags.specs.declared.place.Place.{Place}
 use Rattle.cache_tags.specs.Line.{Line, rewritten, without_line, in_front, in_place}
 use Rattle.cache_tags.specs.Held.{Held, of_address, in_way, IsSoundSet}
@@ -18,6 +18,7 @@ use Rattle.cache_tags.proofs.PlaceLemmas.{after_touch_lines, after_touch_places,
 use Rattle.gm_cache.specs.State.{find_line}
 use Rattle.gm_cache.specs.Rule.{line_after}
 use Rattle.gm_cache.proofs.SetLemmas.{found_line}
+use Rattle.gm_model.specs.Xbar.{read_of}
 use Rattle.pkt_pool.specs.Packet.{carried_bytes, read_response}
 use Rattle.pkt_pool.specs.declared.cmd.Cmd.{Cmd}
 use Rattle.pkt_pool.specs.declared.cmd.Cmd.TheVariants as cmds
@@ -115,9 +116,6 @@ front_changed l r hs e one =
 -- A line serves a request.
 
 module _ (t : Kept) (ok : IsSoundCache t) (p : Place) (l : Line) (here : line_at t p ≡ Some l) (ok' : IsSoundCache (touched t p)) where
-  u : Kept
-  u = touched t p
-
   -- it is used
   used_first : lines_of (touched t p) ≡ with_lines t p.set (in_front l (lines_at t p.set))
   used_first = rw here at (after_touch_lines t (touched t p) ok p refl)
@@ -174,3 +172,68 @@ module _ (t : Kept) (ok : IsSoundCache t) (p : Place) (l : Line) (here : line_at
       ∙ ap (λ ls. let q : Sets = record { ways = t.ways; line = t.line; lines = ls } in q)
       (served_first x x.cmd ∙ (ap (λ ls. slice_set (lines_of t) p.set (in_front (line_after l x x.cmd) ls)) lines
       ∙ ap (λ i. slice_set (lines_of t) i (in_front (line_after l x x.cmd) (set_at (shown t) l.address))) number)))
+
+-- what a call has served
+pub record Served (t v : Kept) (a : ℕ) (x y : Packet) : Type 0 where
+  pub served : true ≡ is_some (line_in (shown t) a)
+  pub lines : shown v ≡ served_in (shown t) (line_in (shown t) a) x
+  pub packet : y ≡ response_in (line_in (shown t) a) x
+
+-- a line begins at a multiple of its size
+aligned : (a b n : ℕ) → 0 < n → b - b % n ≡ a → a % n ≡ 0
+aligned a b n some own =
+    let e : a ≡ b / n * n + 0 = omega (arith, own, div-add-mod' b n) in
+    ap (λ x. x % n) e ∙ mod-mul-add (b / n) n 0 some
+
+pub serve_there : (t u v : Kept) (a : ℕ) (p : Place) (x y : Packet) → IsSoundCache t → 0 < t.line → x.addr - x.addr % t.line ≡ a
+    → Some p ≡ found t a → is_some (line_at t p) ≡ true → line_at t p ≡ line_of t a → u ≡ touched t p → IsSoundCache u
+    → v ≡ served_at u p (x.addr - a) x x.cmd → IfSome (line_at u p) (λ l. l.address ≡ a → y ≡ response_by l x x.cmd) → Served t v a x y
+serve_there t u v a p x y ok some own at there same used ok' served answered = by (line_at t p) refl where
+  by : (o : Option Line) → line_at t p ≡ o → Served t v a x y
+  by None e = let none : is_some (line_at t p) ≡ false = ap is_some e in absurd (cc (none, there))
+  by (Some l) e =
+      let begins : a % t.line ≡ 0 = aligned a x.addr t.line some own in
+      let of : line_of t a ≡ Some l = sym same ∙ e in
+      let here : line_in (shown t) a ≡ Some l = line_shown t a begins ∙ of in
+      let base : base_of t a ≡ a = omega (arith, begins) in
+      let address : l.address ≡ a = line_address t a l of ∙ base in
+      let stays : line_at u p ≡ Some l = after_touch_places t u ok p used there p ∙ e in
+      record {
+        served = sym (ap is_some here);
+        lines = ap shown served ∙ (ap (λ k. shown (served_at k p (x.addr - a) x x.cmd)) used
+            ∙ (served_shown t ok p l e (subst IsSoundCache used ok') x a address (place_set t a p at) ∙ ap (λ o. served_in (shown t) o x) (sym here)));
+        packet = (rw stays at answered) address ∙ ap (λ o. response_in o x) (sym here);
+      }
+
+-- it isn't there
+pub serve_lacks : (t : Kept) (a : ℕ) (x : Packet) → 0 < t.line → x.addr - x.addr % t.line ≡ a → line_of t a ≡ None → line_in (shown t) a ≡ None
+serve_lacks t a x some own none = line_shown t a (aligned a x.addr t.line some own) ∙ none
+
+-- A read without time.
+
+-- the bytes of a line from an address on
+pub record HasRead (t : Kept) (x y : Packet) : Type 0 where
+  pub answered : true ≡ is_some (bytes_in (shown t) x.addr x.size)
+  pub packet : y ≡ read_of x (bytes_in (shown t) x.addr x.size)
+
+-- where it lies in its line
+left : (a n : ℕ) → a - (a - a % n) ≡ a % n
+left a n = omega (arith, div-add-mod' a n)
+
+pub read_there : (t : Kept) (p : Place) (bytes : List ℕ) (x y : Packet) → 0 < t.line → line_at t p ≡ line_of t x.addr
+    → option_map (λ l. l.bytes) (line_at t p) ≡ Some bytes → length bytes ≡ t.line
+    → y ≡ read_response x (take x.size (drop (x.addr % length bytes) bytes)) → HasRead t x y
+read_there t p bytes x y some same has whole answer = by (line_of t x.addr) refl (sym (ap (option_map (λ (l : Line). l.bytes)) same) ∙ has) where
+  by : (o : Option Line) → line_of t x.addr ≡ o → option_map (λ (l : Line). l.bytes) o ≡ Some bytes → HasRead t x y
+  by None e f = absurd cc
+  by (Some l) e f =
+      let here : line_in (shown t) (base_of t x.addr) ≡ Some l = line_around t x.addr some ∙ e in
+      let b : l.bytes ≡ bytes = cc in
+      let rest : x.addr - l.address ≡ x.addr % length bytes =
+      ap (λ n. x.addr - n) (line_address t x.addr l e) ∙ (left x.addr t.line ∙ ap (λ n. x.addr % n) (sym whole)) in
+      let read : bytes_in (shown t) x.addr x.size ≡ Some (take x.size (drop (x.addr % length bytes) bytes)) =
+      rw (here, bytes_in) (ap (λ n. Some (take x.size (drop n l.bytes))) rest ∙ ap (λ bs. Some (take x.size (drop (x.addr % length bytes) bs))) b) in
+      record { answered = sym (ap is_some read); packet = answer ∙ ap (read_of x) (sym read) }
+
+pub read_lacks : (t : Kept) (a count : ℕ) → 0 < t.line → line_of t a ≡ None → bytes_in (shown t) a count ≡ None
+read_lacks t a count some none = rw (line_around t a some ∙ none, bytes_in) refl
