@@ -9,7 +9,7 @@ use Rattle.std.proofs.lemmas.Nat.{div-add-mod', div-mul-add, mod-mul-add}
 use Rattle.cache_tags.specs.declared.place.Place.{Place}
 use Rattle.cache_tags.specs.Line.{Line, rewritten, without_line, in_front, in_place}
 use Rattle.cache_tags.specs.Held.{Held, of_address, in_way, IsSoundSet}
-use Rattle.cache_tags.specs.Kept.{Kept, base_of, lines_at, lines_of, with_lines, line_of, line_at, found, touched, written, emptied, IsSoundCache}
+use Rattle.cache_tags.specs.Kept.{Kept, base_of, lines_at, lines_of, with_lines, line_of, line_at, found, touched, written, empty, emptied, IsSoundCache}
 use Rattle.cache_tags.specs.Kept as kept
 use Rattle.cache_tags.proofs.Counts.{bit}
 use Rattle.cache_tags.proofs.PlainLemmas.{plain}
@@ -32,6 +32,9 @@ use Rattle.obj_cache.specs.LinesKept.{shown, served_at}
 none_lines : (n : ℕ) → map (λ (hs : List Held). plain hs) (replicate n []) ≡ replicate n []
 none_lines zero = refl
 none_lines (suc n) = ap (λ xs. [] ∷ xs) (none_lines n)
+
+pub started : (t : Kept) (n ways line : ℕ) → t ≡ empty n ways line → shown t ≡ record { ways = ways; line = line; lines = replicate n [] }
+started t n ways line e = rw e (ap (λ ls. let s : Sets = record { ways = ways; line = line; lines = ls } in s) (none_lines n))
 
 pub cleared : (t t' : Kept) → t' ≡ emptied t → shown t' ≡ record (shown t) { lines = replicate (length (lines_of t)) [] }
 cleared t t' e =
