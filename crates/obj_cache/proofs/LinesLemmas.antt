@@ -1,14 +1,14 @@
 -- The lines of a cache, as its tags keep them and as contracts see them.
-use Rattle.std.proofs.Common.{◌≡◌, ℕ, zero, suc, ◌+◌, ◌-◌, ◌*◌, ◌/◌, ◌%◌, ◌<◌, ◌≤◌, ◌==◌, if◌then◌else◌, true, false, List, [], ◌∷◌, length, take, drop, map, replicate, refl, sym, ◌∙◌, ap, subst, arith, eq-eqb, ne_eqb, Option, Some, None, ◌⊎◌, inl, inr, IsTrue}
-use Rattle.std.specs.Prelude.{find, count_by, is_some, IfSome, slice_index_or, slice_set}
+use Rattle.std.proofs.Common.{◌≡◌, ℕ, zero, suc, ◌+◌, ◌-◌, ◌*◌, ◌/◌, ◌%◌, ◌<◌, ◌≤◌, ◌==◌, true, false, List, [], ◌∷◌, length, take, drop, map, replicate, refl, sym, ◌∙◌, ap, subst, arith, eq-eqb, ne_eqb, Option, Some, None, ◌⊎◌, inl, inr}
+use Rattle.std.specs.Prelude.{count_by, is_some, IfSome, slice_index_or, slice_set}
 use Rattle.std.specs.Option.{option_map}
-use Rattle.std.proofs.lemmas.Bool.{cases_eq, and_parts, eqb-true, leb-true}
+use Rattle.std.proofs.lemmas.Bool.{cases_eq}
 use Rattle.std.proofs.lemmas.List.{length-map, set-set, get_or-set_same}
 use Rattle.std.proofs.lemmas.List.Sums.{sum_by-cons}
 use Rattle.std.proofs.lemmas.Nat.{div-add-mod', div-mul-add, mod-mul-add}
 use Rattle.cache_tags.specs.declared.place.Place.{Place}
 use Rattle.cache_tags.specs.Line.{Line, rewritten, without_line, in_front, in_place}
-use Rattle.cache_tags.specs.Held.{Held, of_address, in_way, IsSoundSet}
+use Rattle.cache_tags.specs.Held.{Held, of_address}
 use Rattle.cache_tags.specs.Kept.{Kept, base_of, lines_at, lines_of, with_lines, line_of, line_at, found, touched, written, empty, emptied, IsSoundCache}
 use Rattle.cache_tags.specs.Kept as kept
 use Rattle.cache_tags.proofs.Counts.{bit}
@@ -24,7 +24,6 @@ use Rattle.pkt_pool.specs.declared.cmd.Cmd.{Cmd}
 use Rattle.pkt_pool.specs.declared.cmd.Cmd.TheVariants as cmds
 use Rattle.pkt_pool.specs.declared.packet.Packet.{Packet}
 use Rattle.obj_cache.specs.Sets.{Sets, set_at, set_of, line_in, served_in, response_by, response_in, bytes_in}
-use Rattle.obj_cache.specs.Held.{IsTarget}
 use Rattle.obj_cache.specs.LinesKept.{shown, served_at}
 
 -- No line.
@@ -130,7 +129,8 @@ module _ (t : Kept) (ok : IsSoundCache t) (p : Place) (l : Line) (here : line_at
   first =
       sym (lines_in (touched t p).sets p.set)
       ∙ (ap (λ xs. slice_index_or xs p.set []) used_first
-      ∙ get_or-set_same (lines_of t) p.set (in_front l (lines_at t p.set)) [] (omega (arith, place_within t p (ap is_some here), length-map t.sets (λ (hs : List Held). plain hs))))
+      ∙ get_or-set_same (lines_of t) p.set (in_front l (lines_at t p.set)) []
+      (omega (arith, place_within t p (ap is_some here), length-map t.sets (λ (hs : List Held). plain hs))))
 
   -- and changed
   changed_first : (offset : ℕ) (bytes : List ℕ)
@@ -139,7 +139,9 @@ module _ (t : Kept) (ok : IsSoundCache t) (p : Place) (l : Line) (here : line_at
       rw stays at (after_write_lines (touched t p) (written (touched t p) p offset bytes) ok' p offset bytes refl)
       ∙ (ap (λ xs. slice_set xs p.set (in_place (rewritten l offset bytes) (lines_at (touched t p) p.set))) used_first
       ∙ (set-set (lines_of t) p.set (in_front l (lines_at t p.set)) (in_place (rewritten l offset bytes) (lines_at (touched t p) p.set))
-      ∙ ap (with_lines t p.set) (ap (in_place (rewritten l offset bytes)) first ∙ front_changed l (rewritten l offset bytes) (kept.set_at t p.set) refl ((ok.sound p.set).one_line l.address))))
+      ∙ ap (with_lines t p.set)
+      (ap (in_place (rewritten l offset bytes)) first
+      ∙ front_changed l (rewritten l offset bytes) (kept.set_at t p.set) refl ((ok.sound p.set).one_line l.address))))
 
   served_first : (x : Packet) (cmd : Cmd)
       → lines_of (served_at (touched t p) p (x.addr - l.address) x cmd) ≡ with_lines t p.set (in_front (line_after l x cmd) (lines_at t p.set))

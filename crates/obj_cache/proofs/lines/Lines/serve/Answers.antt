@@ -1,4 +1,4 @@
-use Rattle.std.proofs.Common.{◌≡◌, ◌∙◌, ◌-◌, ◌%◌, ap, sym, refl, None, is_some}
+use Rattle.std.proofs.Common.{◌≡◌, ◌∙◌, ◌-◌, ◌%◌, ap, sym, None, is_some}
 use Rattle.obj_cache.specs.Sets.{Sets, line_in, served_in, response_in}
 use Rattle.obj_cache.specs.LinesKept.{shown}
 use Rattle.obj_cache.proofs.LinesLemmas.{Served, serve_there, serve_lacks}
