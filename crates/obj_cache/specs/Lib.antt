@@ -1,6 +1,7 @@
 pub mod Held
 pub mod RegistersKept
 pub mod Sets
+pub mod LinesKept
 pub mod Leaving
 pub mod Shown
 pub mod Step

@@ -1,13 +1,16 @@
 // The lines of a cache, by set, and what a line does with a request.
-ghost use Rattle.std.specs.Prelude.{◌≡◌, ◌%◌, ◌<◌, ◌≤◌, ◌==◌, ◌||◌, [], length, replicate, None, IfOk, is_some, IsTrue};
+ghost use Rattle.std.specs.Prelude.{◌≡◌, ◌-◌, ◌%◌, ◌<◌, ◌≤◌, ◌==◌, ◌||◌, [], length, take, drop, replicate, None, IfOk, IsSome, IfSome, is_some, IsTrue};
 ghost use Rattle.std.specs.Option.{option_map};
 ghost use Rattle.std.specs.Int.{is_power_of_two};
+ghost use Rattle.cache_tags.specs.Kept.{line_at, IsSoundCache};
 ghost use Rattle.cache_tags.specs.Line.{new_line, leaving_line, victim};
+ghost use Rattle.pkt_pool.specs.Packet.{read_response};
 ghost use Rattle.obj_cache.specs.Held.{IsTarget};
 ghost use Rattle.gc_base.specs.declared.limits.TheConstants.{WAYS_MAX};
 ghost use Rattle.gm_words.specs.Allowed.{MayPass};
 ghost use Rattle.gm_model.specs.Xbar.{read_of};
-ghost use Rattle.obj_cache.specs.Sets.{set_at, line_in, served_in, response_in, come_to, bytes_in};
+ghost use Rattle.obj_cache.specs.Sets.{set_at, line_in, served_in, response_by, response_in, come_to, bytes_in};
+ghost use Rattle.obj_cache.specs.LinesKept.{served_at};
 
 use cache_tags::{Place, Tags, Victim};
 use gc_base::NoMemory;
@@ -23,13 +26,13 @@ pub(crate) struct Lines {
 
 impl Model for Lines {
     ghost use Rattle.obj_cache.specs.Sets.{Sets};
-    ghost use Rattle.cache_tags.specs.Kept.{lines_of, IsSoundCache};
+    ghost use Rattle.obj_cache.specs.LinesKept.{shown, AreLines};
 
     ghost Value = { Sets };
 
-    ghost view = { λ l. record { ways = l.tags.ways; line = l.tags.line; lines = lines_of l.tags } };
+    ghost view = { λ l. shown l.tags };
 
-    ghost invariant = { λ l. IsSoundCache l.tags };
+    ghost invariant = { λ l. AreLines l.tags };
 }
 
 impl Lines {
@@ -65,6 +68,7 @@ impl Lines {
         match self.tags.find(addr) {
             Some(at) => {
                 self.tags.touch(at);
+                serve_at(&mut self.tags, at, addr, p);
                 true
             }
             None => false,
@@ -95,6 +99,48 @@ impl Lines {
         ensures answered { result ≡ is_some (bytes_in self.now p.old.addr p.old.size) }
         ensures packet { p.new ≡ read_of p.old (bytes_in self.now p.old.addr p.old.size) }
     {
-        false
+        match self.tags.find(p.addr) {
+            Some(at) => {
+                let line = self.tags.bytes(at);
+                let from = p.addr % line.len() as u64;
+                answer(p, line, from as usize);
+                true
+            }
+            None => false,
+        }
     }
+}
+
+/// The line at a place, which begins at an address, serves a request, and stays in its place.
+fn serve_at(tags: &mut Tags, at: Place, addr: u64, p: &mut Packet)
+    requires sound { IsSoundCache tags.old }
+    requires most { tags.old.line ≤ 64 }
+    requires there { IsSome (line_at tags.old at) }
+    requires target { IsTarget tags.old.line addr p.old }
+    ensures tags { tags.new ≡ served_at tags.old at (p.old.addr - addr) p.old p.old.cmd }
+    ensures sound { IsSoundCache tags.new }
+    ensures packet { IfSome (line_at tags.old at) (λ l. l.address ≡ addr → p.new ≡ response_by l p.old p.old.cmd) }
+{
+    let from = p.addr - addr;
+    match p.cmd {
+        Cmd::Read => answer(p, tags.bytes(at), from as usize),
+        Cmd::Write => {
+            tags.write(at, from as u32, &p.bytes[..p.size as usize]);
+            p.cmd = Cmd::WriteResp;
+        }
+        Cmd::WriteBack => tags.write(at, from as u32, &p.bytes[..p.size as usize]),
+        Cmd::ReadResp | Cmd::WriteResp => {}
+    }
+}
+
+/// Answers a read by the bytes of a line from one on.
+#[tactic(auto, using(std::proofs::lemmas::List::take_min))]
+fn answer(p: &mut Packet, line: &[u8], from: usize)
+    requires size { MayPass p.old }
+    requires within { from ≤ length line.now }
+    ensures { p.new ≡ read_response p.old (take p.old.size (drop from line.now)) }
+{
+    let rest = &line[from..];
+    let count = (p.size as usize).min(rest.len());
+    p.answer(&rest[..count]);
 }
