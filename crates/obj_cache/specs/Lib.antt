@@ -5,3 +5,4 @@ pub mod LinesKept
 pub mod Leaving
 pub mod Shown
 pub mod Step
+pub mod Commands

@@ -8,6 +8,8 @@ ghost use Rattle.pkt_pool.specs.declared.packet.Packet.{Packet};
 ghost use Rattle.cache_tags.specs.Line.{Line, new_line, padded, victim};
 ghost use Rattle.pkt_pool.specs.Packet.{carried_bytes};
 ghost use Rattle.gm_words.specs.Allowed.{MayPass, MayCome};
+ghost use Rattle.cfg_tree.specs.Valid.{IsValidCache};
+ghost use Rattle.gm_words.specs.declared.way.Way.TheVariants.{Pass};
 ghost use Rattle.gm_words.specs.Entries.{served_entries};
 ghost use Rattle.gm_words.specs.declared.answer.Answer.TheVariants.{Nothing};
 ghost use Rattle.gm_cache.specs.State.{cache_start, base_of, line_in, find_register, packets_in};
@@ -24,7 +26,7 @@ use cache_tags::Victim;
 use ev_queue::{EventHandle, EventQueue};
 use gc_base::limits::TOP;
 use gc_base::{NoMemory, ObjId, PortNo, Tick};
-use gm_model::{Act, Answer, Cmd, Entry, Packet, Params, Wake, Way};
+use gm_model::{Act, Answer, CacheConfig, Cmd, Entry, Packet, Params, Wake, Way};
 use obj_core::{Flow, Outbox};
 use obj_server::{ServedBy, note_served};
 use std::alloc::Global;
@@ -72,6 +74,51 @@ pub struct Cache {
 
 impl Cache {
     ghost use Rattle.obj_cache.specs.Shown.{shown, most_held, StaysAs};
+    ghost use Rattle.obj_cache.specs.Commands.{with_timing, with_draining, is_cache_drained, cache_invalidated, nth_line};
+
+    // Set-up.
+
+    /// A cache at its start, in the atomic mode, that drains. Its own requests have this source; the handles are those of its two slots.
+    pub fn start(
+        alloc: Global,
+        params: &Params,
+        source: u8,
+        config: &CacheConfig,
+        response: EventHandle<0>,
+        request: EventHandle<10>,
+    ) -> Result<Cache, NoMemory>
+        requires line { IsTrue ((params.now.line == 16) || (params.now.line == 32) || (params.now.line == 64)) }
+        requires config { IsValidCache config.now }
+        requires response { response.owner ≡ params.now.object.0 }
+        requires first { response.slot ≡ 0 }
+        requires request { request.owner ≡ params.now.object.0 }
+        requires second { request.slot ≡ 1 }
+        ensures { IfOk result (λ c. shown c ≡ cache_start params.now source config.now.sets config.now.ways config.now.mshrs config.now.targets
+            config.now.writeq config.now.latency) }
+    {
+        Ok(Cache {
+            object: params.object,
+            line: params.line,
+            ram: params.ram,
+            timing: false,
+            draining: true,
+            source,
+            writeq: config.writeq as u32,
+            latency: config.latency,
+            lines: Lines::new(alloc, config.sets as u32, config.ways as u32, params.line)?,
+            registers: Registers::new(
+                alloc,
+                config.mshrs as u32,
+                config.targets as u32,
+                params.line,
+            )?,
+            answers: Flow::new(alloc, PLACES)?,
+            leaving: Leaving::new(alloc, PLACES)?,
+            waiter: false,
+            response,
+            request,
+        })
+    }
 
     // Queues.
 
@@ -526,6 +573,63 @@ impl Cache {
         }
         self.call_waiter(out);
         Answer::Taken
+    }
+
+    // Packets without time.
+
+    /// A packet that is passed at once goes on below, and takes no time.
+    pub fn pass(&self) -> Way
+        ensures { result ≡ Pass (record { 0 = 1 }) 0 }
+    {
+        Way::Pass {
+            port: BELOW,
+            latency: 0,
+        }
+    }
+
+    /// Answers a read without time by the newest bytes that it has of its address, if it has any.
+    pub fn read(&self, p: &mut Packet)
+        requires { MayPass p.old }
+        ensures { p.new ≡ cache_functional (shown self.now) p.old }
+    {
+        if !self.lines.read(p) && !self.registers.read(p) {
+            self.leaving.read(p);
+        }
+    }
+
+    // Mode, drain and resume.
+
+    /// Sets the mode.
+    pub fn set_timing(&mut self, timing: bool)
+        ensures { shown self.new ≡ with_timing timing (shown self.old) }
+    {
+        self.timing = timing;
+    }
+
+    /// Asks it to drain, or lets it go on.
+    pub fn set_draining(&mut self, draining: bool)
+        ensures { shown self.new ≡ with_draining draining (shown self.old) }
+    {
+        self.draining = draining;
+    }
+
+    /// Whether it holds no packet, and nobody waits.
+    pub fn is_drained(&self) -> bool
+        ensures { result ≡ is_cache_drained (shown self.now) }
+    {
+        self.answers.is_empty()
+            && self.leaving.is_empty()
+            && self.registers.is_empty()
+            && !self.waiter
+    }
+
+    // Lines.
+
+    /// Forgets all lines, dirty ones too.
+    pub fn invalidate(&mut self)
+        ensures { shown self.new ≡ cache_invalidated (shown self.old) }
+    {
+        self.lines.clear();
     }
 }
 
