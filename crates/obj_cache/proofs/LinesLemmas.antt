@@ -1,14 +1,20 @@
 -- The lines of a cache, as its tags keep them and as contracts see them.
 use Rattle.std.proofs.Common.{◌≡◌, ℕ, zero, suc, ◌+◌, ◌-◌, ◌*◌, ◌/◌, ◌%◌, ◌<◌, ◌≤◌, ◌==◌, true, false, List, [], ◌∷◌, length, take, drop, map, replicate, refl, sym, ◌∙◌, ap, subst, arith, eq-eqb, ne_eqb, Option, Some, None, ◌⊎◌, inl, inr}
-use Rattle.std.specs.Prelude.{count_by, is_some, IfSome, slice_index_or, slice_set}
+use Rattle.std.specs.Prelude.{count_by, is_some, IfSome, slice_get, slice_index_or, slice_set}
 use Rattle.std.specs.Option.{option_map}
 use Rattle.std.proofs.lemmas.Bool.{cases_eq}
+use Rattle.std.proofs.lemmas.Option.{slice_get-map}
 use Rattle.std.proofs.lemmas.List.{length-map, set-set, get_or-set_same}
 use Rattle.std.proofs.lemmas.List.Sums.{sum_by-cons}
 use Rattle.std.proofs.lemmas.Nat.{div-add-mod', div-mul-add, mod-mul-add}
 use Rattle.cache_tags.specs.declared.place.Place.{Place}
 use Rattle.cache_tags.specs.Line.{Line, rewritten, without_line, in_front, in_place}
 use Rattle.cache_tags.specs.Held.{Held, of_address}
+use Rattle.cache_tags.specs.Held.{line_info as kept_info}
+use Rattle.cache_tags.specs.declared.place.LineAt.{LineAt}
+use Rattle.obj_core.specs.Lines.{line_info}
+use Rattle.obj_core.specs.declared.line_info.LineInfo.{LineInfo}
+use Rattle.obj_cache.specs.Commands.{told}
 use Rattle.cache_tags.specs.Kept.{Kept, base_of, lines_at, lines_of, with_lines, line_of, line_at, found, touched, written, empty, emptied, IsSoundCache}
 use Rattle.cache_tags.specs.Kept as kept
 use Rattle.cache_tags.proofs.Counts.{bit}
@@ -23,7 +29,7 @@ use Rattle.pkt_pool.specs.Packet.{carried_bytes, read_response}
 use Rattle.pkt_pool.specs.declared.cmd.Cmd.{Cmd}
 use Rattle.pkt_pool.specs.declared.cmd.Cmd.TheVariants as cmds
 use Rattle.pkt_pool.specs.declared.packet.Packet.{Packet}
-use Rattle.obj_cache.specs.Sets.{Sets, set_at, set_of, line_in, served_in, response_by, response_in, bytes_in}
+use Rattle.obj_cache.specs.Sets.{Sets, nth_in, set_at, set_of, line_in, served_in, response_by, response_in, bytes_in}
 use Rattle.obj_cache.specs.LinesKept.{shown, served_at}
 
 -- No line.
@@ -242,3 +248,26 @@ read_there t p bytes x y some same has whole answer = by (line_of t x.addr) refl
 
 pub read_lacks : (t : Kept) (a count : ℕ) → 0 < t.line → line_of t a ≡ None → bytes_in (shown t) a count ≡ None
 read_lacks t a count some none = rw (line_around t a some ∙ none, bytes_in) refl
+
+-- The n-th line of a set.
+
+nth_shown : (t : Kept) (set n : ℕ) → nth_in (shown t) set n ≡ option_map (λ (h : Held). h.line) (slice_get (kept.set_at t set) n)
+nth_shown t set n = ap (λ ls. slice_get ls n) (lines_in t.sets set) ∙ slice_get-map (λ (h : Held). h.line) (kept.set_at t set) n
+
+-- what is told of it
+pub nth_told : (t : Kept) (set n : ℕ) (l : LineAt) → Some l ≡ kept.nth_line t set n
+    → option_map (λ (l : Line). line_info (told set l)) (nth_in (shown t) set n) ≡ Some (record { set = set; addr = l.addr; dirty = l.dirty })
+nth_told t set n l e = ap (option_map (λ (l : Line). line_info (told set l))) (nth_shown t set n) ∙ by (slice_get (kept.set_at t set) n) e where
+  same : (l k : LineAt) → Some l ≡ Some k → k ≡ l
+  same l k e = cc
+
+  by : (v : Option Held) → Some l ≡ option_map (kept_info set) v
+      → option_map (λ (l : Line). line_info (told set l)) (option_map (λ (h : Held). h.line) v) ≡ Some (record { set = set; addr = l.addr; dirty = l.dirty })
+  by None e = absurd (cc)
+  by (Some h) e = ap (λ (k : LineAt). let i : LineInfo = record { set = set; addr = k.addr; dirty = k.dirty } in Some i) (same l (kept_info set h) e)
+
+pub nth_none : (t : Kept) (set n : ℕ) → kept.nth_line t set n ≡ None → nth_in (shown t) set n ≡ None
+nth_none t set n e = nth_shown t set n ∙ by (slice_get (kept.set_at t set) n) e where
+  by : (v : Option Held) → option_map (kept_info set) v ≡ None → option_map (λ (h : Held). h.line) v ≡ None
+  by None e = refl
+  by (Some h) e = absurd (cc)

@@ -1,5 +1,5 @@
 -- The lines of a cache as contracts see them. This project's own rule.
-use Rattle.std.specs.Prelude.{◌≡◌, ℕ, ◌-◌, ◌/◌, ◌%◌, List, [], length, take, drop, slice_index_or, slice_set, Option, Some, None}
+use Rattle.std.specs.Prelude.{◌≡◌, ℕ, ◌-◌, ◌/◌, ◌%◌, List, [], length, take, drop, slice_get, slice_index_or, slice_set, Option, Some, None}
 use Rattle.cache_tags.specs.Line.{Line, in_front, come_in}
 use Rattle.gm_cache.specs.State.{find_line}
 use Rattle.gm_cache.specs.Rule.{line_after}
@@ -25,6 +25,10 @@ set_at s a = slice_index_or s.lines (set_of s a) []
 -- the sets with other lines in that of an address
 abbrev pub with_set : Sets → ℕ → List Line → Sets
 with_set s a ls = record s { lines = slice_set s.lines (set_of s a) ls }
+
+-- the n-th line of a set, the most recently used first
+abbrev pub nth_in : Sets → ℕ → ℕ → Option Line
+nth_in s set n = slice_get (slice_index_or s.lines set []) n
 
 -- the line that begins at an address, where it is there
 abbrev pub line_in : Sets → ℕ → Option Line

@@ -15,6 +15,7 @@ ghost use Rattle.gm_words.specs.declared.answer.Answer.TheVariants.{Nothing};
 ghost use Rattle.gm_cache.specs.State.{cache_start, base_of, line_in, find_register, packets_in};
 ghost use Rattle.gm_cache.specs.Rule.{is_blocked, sending_above, sending_below, noting, requesting, evicting, installing, serving, serving_all, calling, access_in, back_in, cached_in, taking, is_cached, is_fill, fits, returning, fill_in, from_above, port_moved, sent_in, later, with_registers, offered, cache_step, cache_functional};
 ghost use Rattle.gm_model.specs.Flows.{ask_in, hold_in, again_in};
+ghost use Rattle.obj_core.specs.Lines.{line_info, line_bytes};
 ghost use Rattle.obj_core.specs.Out.{Out, HasRoom};
 ghost use Rattle.obj_cache.specs.Held.{IsTarget, is_full, targets_of, with_targets};
 ghost use Rattle.obj_cache.specs.Step.{HasBoth, Goes, Wakes};
@@ -27,7 +28,7 @@ use ev_queue::{EventHandle, EventQueue};
 use gc_base::limits::TOP;
 use gc_base::{NoMemory, ObjId, PortNo, Tick};
 use gm_model::{Act, Answer, CacheConfig, Cmd, Entry, Packet, Params, Wake, Way};
-use obj_core::{Flow, Outbox};
+use obj_core::{Flow, LineInfo, Outbox};
 use obj_server::{ServedBy, note_served};
 use std::alloc::Global;
 
@@ -624,6 +625,14 @@ impl Cache {
     }
 
     // Lines.
+
+    /// What is told of the n-th line of a set, the most recently used first, and its bytes.
+    pub fn line(&self, set: u32, n: u32, bytes: &mut [u8; 64]) -> Option<LineInfo>
+        ensures line { result ≡ option_map line_info (nth_line (shown self.now) set n) }
+        ensures bytes { bytes.new ≡ line_bytes (nth_line (shown self.now) set n) bytes.old }
+    {
+        self.lines.line(set, n, bytes)
+    }
 
     /// Forgets all lines, dirty ones too.
     pub fn invalidate(&mut self)

@@ -9,12 +9,15 @@ ghost use Rattle.obj_cache.specs.Held.{IsTarget};
 ghost use Rattle.gc_base.specs.declared.limits.TheConstants.{WAYS_MAX};
 ghost use Rattle.gm_words.specs.Allowed.{MayPass};
 ghost use Rattle.gm_model.specs.Xbar.{read_of};
-ghost use Rattle.obj_cache.specs.Sets.{set_at, line_in, served_in, response_by, response_in, come_to, bytes_in};
+ghost use Rattle.obj_cache.specs.Commands.{told};
+ghost use Rattle.obj_core.specs.Lines.{line_info, line_bytes};
+ghost use Rattle.obj_cache.specs.Sets.{nth_in, set_at, line_in, served_in, response_by, response_in, come_to, bytes_in};
 ghost use Rattle.obj_cache.specs.LinesKept.{served_at};
 
 use cache_tags::{Place, Tags, Victim};
 use gc_base::NoMemory;
 use gm_model::{Cmd, Packet};
+use obj_core::LineInfo;
 use std::alloc::Global;
 use std::marker::Model;
 
@@ -91,6 +94,25 @@ impl Lines {
         ensures { self.new ≡ record self.old { lines = replicate (length self.old.lines) [] } }
     {
         self.tags.clear();
+    }
+
+    /// What is told of the n-th line of a set, the most recently used first, and its bytes.
+    pub(crate) fn line(&self, set: u32, n: u32, bytes: &mut [u8; 64]) -> Option<LineInfo>
+        ensures line { result ≡ option_map (λ l. line_info (told set l)) (nth_in self.now set n) }
+        ensures bytes { bytes.new ≡ line_bytes (option_map (told set) (nth_in self.now set n)) bytes.old }
+    {
+        match self.tags.nth(set, n) {
+            Some(line) => {
+                let own = self.tags.bytes(line.at);
+                bytes[..own.len()].copy_from_slice(own);
+                Some(LineInfo {
+                    set,
+                    addr: line.addr,
+                    dirty: line.dirty,
+                })
+            }
+            None => None,
+        }
     }
 
     /// Answers a read without time by the line of its address, if that is there.
