@@ -1,8 +1,8 @@
 -- How many write-backs are in a queue.
-use Rattle.std.proofs.Common.{◌≡◌, ℕ, zero, suc, ◌+◌, ◌-◌, ◌≤◌, Bool, true, false, List, [], ◌∷◌, ◌++◌, refl, sym, ◌∙◌, ap, arith, length, Option, Some, None}
+use Rattle.std.proofs.Common.{◌≡◌, ℕ, ◌+◌, ◌≤◌, List, [], ◌∷◌, ◌++◌, refl, arith, length}
 use Rattle.gm_cache.specs.Rule.{backs, back_bit}
-use Rattle.gm_model.specs.Flows.{Outlet, put_in, gone_in, ask_in, hold_in, again_in, head_of}
-use Rattle.gm_words.specs.Flow.{Queued, OutState, Quiet, Due, Asked, Waits}
+use Rattle.gm_model.specs.Flows.{Outlet, put_in, gone_in}
+use Rattle.gm_words.specs.Flow.{Queued, OutState}
 use Rattle.obj_cache.specs.Leaving.{first_bit}
 use Rattle.pkt_pool.specs.declared.cmd.Cmd.{Cmd}
 use Rattle.pkt_pool.specs.declared.cmd.Cmd.TheVariants as cmds

@@ -1,5 +1,5 @@
 -- What each call makes of the registers, as they are kept and as contracts see them.
-use Rattle.std.proofs.Common.{◌≡◌, ℕ, ◌+◌, ◌≤◌, ◌==◌, refl, sym, ◌∙◌, ap, arith, subst, eq-eqb, Bool, true, false, List, [], ◌∷◌, ◌++◌, length, drop, slice_get, Option, Some, None, is_some, IfSome, OnSome, All}
+use Rattle.std.proofs.Common.{◌≡◌, ℕ, ◌+◌, ◌≤◌, refl, sym, ◌∙◌, ap, arith, subst, eq-eqb, Bool, true, false, List, [], ◌∷◌, ◌++◌, length, drop, slice_get, Option, Some, None, is_some, IfSome, OnSome, All}
 use Rattle.std.proofs.lemmas.List.{length-append}
 use Rattle.std.proofs.lemmas.List.Elements.{All-append, All-nil, All-cons, All-head, All-tail}
 use Rattle.cache_mshr.specs.Registers as kept
@@ -8,8 +8,8 @@ use Rattle.cache_mshr.proofs.RegistersLemmas.{found_open}
 use Rattle.gm_cache.specs.State.{Register, without_register, joined}
 use Rattle.pkt_pool.specs.declared.packet.Packet.{Packet}
 use Rattle.pkt_pool.specs.Pooled.{Pooled, packet_at, count, Changes}
-use Rattle.obj_cache.specs.Held.{Held, IsTarget, targets_of, with_targets, first_gone}
-use Rattle.obj_cache.specs.RegistersKept.{packets_by, packets_of, registers_of, shown, bit, times, sum_in, times_in, all_targets, AreInLine, IsKept}
+use Rattle.obj_cache.specs.Held.{IsTarget, targets_of, with_targets, first_gone}
+use Rattle.obj_cache.specs.RegistersKept.{packets_by, packets_of, registers_of, shown, bit, times, sum_in, times_in, IsKept}
 use Rattle.obj_cache.proofs.RegistersLemmas.{put_packets, times_append, length_packets, held_put, held_taken, no_target, unseen_in, in_line_unseen, targets_shown, with_shown, without_shown, targets_none, with_none, without_none, joined_with, sum_end, sum_with, sum_without, in_line_end, in_line_with, in_line_without, in_line_at}
 
 -- One is opened.
@@ -198,9 +198,9 @@ pub first_target : (p : Pooled) (m : Registers) (line g a : ℕ) → IsKept p m 
     → IfSome (slice_get (targets_of a (registers_of p m.used)) 0) (IsTarget line a)
 first_target p m line g a i f =
     rw (targets_shown p a g m.used i.sound.apart f) (of (packets_of p (kept.targets_of g m.used)) (in_line_at line p a g m.used i.sound.apart f i.in_line)) where
-  of : (xs : List Packet) → All (IsTarget line a) xs → IfSome (slice_get xs 0) (IsTarget line a)
-  of [] h = tt
-  of (x ∷ xs) h = All-head (IsTarget line a) x xs h
+      of : (xs : List Packet) → All (IsTarget line a) xs → IfSome (slice_get xs 0) (IsTarget line a)
+      of [] h = tt
+      of (x ∷ xs) h = All-head (IsTarget line a) x xs h
 
 -- Nobody waits.
 

@@ -1,5 +1,5 @@
 -- Requests from above: accesses, write-backs, and what passes.
-use Rattle.std.proofs.Common.{◌≡◌, ℕ, ◌+◌, ◌-◌, ◌%◌, ◌==◌, ◌&&◌, not, Bool, true, false, List, [], ◌∷◌, ◌++◌, refl, sym, ◌∙◌, ap, arith, subst, Option, Some, None, is_some, IsTrue, if◌then◌else◌, length}
+use Rattle.std.proofs.Common.{◌≡◌, ℕ, ◌%◌, ◌==◌, ◌&&◌, not, Bool, true, false, List, [], ◌∷◌, ◌++◌, refl, sym, subst, Option, Some, None, is_some, length}
 use Rattle.cache_tags.specs.Line.{Line, new_line}
 use Rattle.ev_queue.specs.Queue.{Queue}
 use Rattle.gm_cache.specs.State.{Register, CacheState, base_of, line_in, find_register, joined}
@@ -12,12 +12,13 @@ use Rattle.pkt_pool.specs.declared.cmd.Cmd.{Cmd}
 use Rattle.pkt_pool.specs.declared.cmd.Cmd.TheVariants as cmds
 use Rattle.pkt_pool.specs.declared.packet.Packet.{Packet}
 use Rattle.obj_cache.specs.Held.{Held}
-use Rattle.obj_cache.specs.Step.{Stands, Goes}
+use Rattle.obj_cache.specs.Step.{Goes}
 use Rattle.obj_cache.proofs.Steps.{followed, goes_by, state_goes, notes_goes}
-use Rattle.obj_cache.proofs.Parts.{but_moves, arrives, goes_for, found_by, none_by, true_false}
+use Rattle.obj_cache.proofs.Parts.{arrives, goes_for, found_by, none_by, true_false}
 
 abbrev pub hit : ℕ → List Entry
 hit i = entries.Hit (record { 0 = i }) ∷ []
+
 abbrev pub miss : ℕ → List Entry
 miss i = entries.Miss (record { 0 = i }) ∷ []
 

@@ -1,5 +1,5 @@
 -- Responses from below: lines that were asked for come, and serve who waits for them.
-use Rattle.std.proofs.Common.{◌≡◌, ℕ, suc, ◌+◌, ◌-◌, ◌%◌, ◌≤◌, ◌==◌, ◌&&◌, not, Bool, true, false, List, [], ◌∷◌, ◌++◌, refl, sym, ◌∙◌, ap, arith, subst, length, Option, Some, None, is_some, IsTrue, if◌then◌else◌}
+use Rattle.std.proofs.Common.{◌≡◌, ℕ, suc, ◌+◌, ◌≤◌, ◌==◌, Bool, true, false, List, [], ◌∷◌, ◌++◌, refl, sym, ◌∙◌, ap, arith, subst, length, Option, Some, None, is_some, if◌then◌else◌}
 use Rattle.std.proofs.lemmas.List.{length-append}
 use Rattle.cache_tags.specs.Line.{Line, new_line, leaving_line}
 use Rattle.ev_queue.specs.Queue.{Queue}
@@ -93,7 +93,7 @@ fills : (y : Packet) (now : ℕ) (v : Option Line) (f : CacheMoved → CacheMove
     → s₃ ≡ (let t : CacheState = record s₂ { registers = without_register y.addr s₂.registers } in t)
     → ((r : Register) (m : CacheMoved) → (f m).cache.registers ≡ m.cache.registers)
     → ((r : Register) (m : CacheMoved) → serving_all y.addr r.targets now (with_registers (without_register y.addr m.cache.registers) (f (answered y m)))
-        ≡ filling y r.targets now v (answered y (closing y.addr m)))
+    ≡ filling y r.targets now v (answered y (closing y.addr m)))
     → Goes (λ m. fill_in y now (find_register y.addr m.cache.registers) m) s s₃ q q₂ o o₂
 fills y now v f s s₁ s₂ s₃ q q₁ q₂ o o₁ o₂ ev er hf hs es keeps same =
     register_by _ (find_register y.addr s.registers) er (λ r g. λ m q₀ o₀ st.

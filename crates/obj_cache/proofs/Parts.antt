@@ -1,13 +1,12 @@
 -- Steps of a wake that go by what the cache has: lines that serve, lines that come and go, and requests and responses.
-use Rattle.std.proofs.Common.{◌≡◌, ℕ, zero, suc, ◌+◌, ◌-◌, ◌%◌, ◌==◌, ◌&&◌, not, Bool, true, false, List, [], ◌∷◌, ◌++◌, refl, sym, ◌∙◌, ap, arith, subst, Option, Some, None, is_some, IsTrue, length, if◌then◌else◌}
+use Rattle.std.proofs.Common.{◌≡◌, ℕ, Bool, true, false, List, [], refl, sym, ◌∙◌, ap, subst, Option, Some, None, is_some, IsTrue, length, if◌then◌else◌}
 use Rattle.std.proofs.lemmas.List.{length-set}
 use Rattle.std.specs.Option.{option_map}
 use Rattle.cache_tags.specs.Line.{Line, in_front, come_in, leaving_line, padded, victim}
 use Rattle.cache_tags.specs.declared.place.Victim.{Victim}
 use Rattle.ev_queue.specs.Queue.{Queue}
-use Rattle.gm_cache.specs.State.{Register, CacheState, with_set, set_at, line_in, find_register}
+use Rattle.gm_cache.specs.State.{CacheState, with_set, set_at, line_in}
 use Rattle.gm_cache.specs.Rule.{CacheMoved, fits, line_after, respond, using, answering, absorbing, serving, serving_in, sending_above, noting, requesting, evicting, installing}
-use Rattle.gm_words.specs.Changes.{changed}
 use Rattle.gm_words.specs.Entries.{served_entries}
 use Rattle.gm_words.specs.declared.entry.Entry.{Entry}
 use Rattle.obj_core.specs.Out.{Out, extended}

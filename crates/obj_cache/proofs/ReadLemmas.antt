@@ -1,13 +1,13 @@
 -- The newest write-back among the packets that wait.
-use Rattle.std.proofs.Common.{◌≡◌, ℕ, ◌+◌, ◌-◌, ◌≤◌, ◌<◌, ◌==◌, ◌||◌, if◌then◌else◌, zero, suc, refl, sym, ◌∙◌, ap, arith, subst, eq-eqb, ne_eqb, append_assoc, Bool, true, false, List, [], ◌∷◌, ◌++◌, length, take, drop, get_or, slice_get, Option, Some, None, is_some, All}
+use Rattle.std.proofs.Common.{◌≡◌, ℕ, ◌+◌, ◌-◌, ◌≤◌, ◌==◌, if◌then◌else◌, zero, suc, refl, sym, ◌∙◌, ap, arith, subst, eq-eqb, ne_eqb, append_assoc, Bool, true, false, List, [], ◌∷◌, ◌++◌, length, take, drop, slice_get, Option, Some, None, is_some, All}
 use Rattle.std.proofs.lemmas.List.{drop_more, drop_all, take-append-drop}
 use Rattle.std.proofs.lemmas.Option.{get_or_from_slice_get, slice_get_within}
 use Rattle.std.proofs.lemmas.List.Elements.{All-head, All-nil}
 use Rattle.std.specs.Option.{option_map}
-use Rattle.gm_cache.specs.State.{Register, targets_in}
+use Rattle.gm_cache.specs.State.{targets_in}
 use Rattle.gm_cache.specs.Rule.{newest_bytes}
 use Rattle.gm_model.specs.Memory.{covers}
-use Rattle.gm_model.specs.Xbar.{first_there, read_of}
+use Rattle.gm_model.specs.Xbar.{first_there}
 use Rattle.cache_mshr.specs.Registers as kept
 use Rattle.pkt_pool.specs.declared.packet.Packet.{Packet}
 use Rattle.pkt_pool.specs.Packet.{carried_bytes}

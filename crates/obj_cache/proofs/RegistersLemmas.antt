@@ -1,16 +1,15 @@
 -- The packets that the targets of registers stand for, as registers and pool change.
-use Rattle.std.proofs.Common.{◌≡◌, ◌≢◌, ℕ, ◌+◌, ◌*◌, ◌≤◌, ◌<◌, ◌==◌, ◌||◌, nat_le, refl, sym, ◌∙◌, ap, arith, subst, eq-eqb, ne_eqb, Bool, true, false, if◌then◌else◌, List, [], ◌∷◌, ◌++◌, length, drop, slice_get, ◌⊎◌, inl, inr, Option, Some, None, IsSome, is_some, IfSome, OnSome, All}
+use Rattle.std.proofs.Common.{◌≡◌, ◌≢◌, ℕ, ◌+◌, ◌*◌, ◌≤◌, ◌<◌, ◌==◌, ◌||◌, nat_le, refl, sym, ◌∙◌, ap, arith, subst, eq-eqb, ne_eqb, Bool, true, false, if◌then◌else◌, List, [], ◌∷◌, ◌++◌, length, ◌⊎◌, inl, inr, Option, Some, None, is_some, All}
 use Rattle.std.proofs.Math.Nat.{mul-le-mul_right}
 use Rattle.std.proofs.lemmas.Bool.{cases_eq, le-leb, lt-leb}
-use Rattle.std.proofs.lemmas.List.Elements.{All-append}
 use Rattle.cache_mshr.specs.Registers as kept
 use Rattle.cache_mshr.specs.Registers.{Registers, key_of, is_open, AreApart, AreWithin, AreSound}
-use Rattle.cache_mshr.proofs.RegistersLemmas.{or_true, not_both, neither, other_line, found_open, register_free}
+use Rattle.cache_mshr.proofs.RegistersLemmas.{not_both, other_line, found_open, register_free}
 use Rattle.gm_cache.specs.State.{Register, find_register, without_register, joined}
 use Rattle.gm_cache.specs.Rule as rule
 use Rattle.pkt_pool.specs.declared.packet.Packet.{Packet}
 use Rattle.pkt_pool.specs.Pooled.{Pooled, packet_at, count, Changes}
-use Rattle.obj_cache.specs.Held.{Held, IsTarget, is_full, targets_of, with_targets}
+use Rattle.obj_cache.specs.Held.{IsTarget, is_full, targets_of, with_targets}
 use Rattle.obj_cache.specs.RegistersKept.{packets_by, packets_of, registers_of, shown, bit, times, sum_in, times_in, all_targets, AreInLine, IsKept}
 
 -- Packets of keys.

@@ -1,5 +1,5 @@
 -- Steps of a wake, one after another.
-use Rattle.std.proofs.Common.{◌≡◌, ℕ, zero, suc, ◌+◌, Bool, true, false, List, [], ◌∷◌, ◌++◌, refl, sym, ◌∙◌, ap, arith, subst, Option, Some, None, unwrap_or, slice_get, length, replicate}
+use Rattle.std.proofs.Common.{◌≡◌, ℕ, zero, suc, ◌+◌, false, List, [], ◌∷◌, ◌++◌, refl, sym, ◌∙◌, ap, arith, subst, Option, unwrap_or, slice_get, length, replicate}
 use Rattle.std.specs.Option.{option_map}
 use Rattle.std.proofs.lemmas.List.{append_assoc, append-nil, map-append, drop-replicate}
 use Rattle.ev_queue.specs.Queue.{Queue}
@@ -210,9 +210,9 @@ pub requests_goes : (cmd : Cmd) (a : ℕ) (bytes : List ℕ) (x : Packet) (now :
     → Goes (sending_below x now) s s' q q' o o → Goes (requesting cmd a bytes now) s s' q q' o o'
 requests_goes cmd a bytes x now s s' q q' o o' e k h = λ m q₀ o₀ st.
     let same : x ≡ line_request m.cache m.next cmd a bytes =
-        e ∙ ap (λ n. line_request s n cmd a bytes) (ap (λ (p : Out). p.next) st.out) ∙ ap (λ (c : CacheState). line_request c m.next cmd a bytes) st.state in
+    e ∙ ap (λ n. line_request s n cmd a bytes) (ap (λ (p : Out). p.next) st.out) ∙ ap (λ (c : CacheState). line_request c m.next cmd a bytes) st.state in
     let t : Stands (sending_below (line_request m.cache m.next cmd a bytes) now m) q₀ o₀ s' q' o =
-        subst (λ (y : Packet). Stands (sending_below y now m) q₀ o₀ s' q' o) same (h m q₀ o₀ st) in
+    subst (λ (y : Packet). Stands (sending_below y now m) q₀ o₀ s' q' o) same (h m q₀ o₀ st) in
     record {
       state = t.state;
       events = t.events;

@@ -1,5 +1,5 @@
 -- Those who wait for a line are served in order.
-use Rattle.std.proofs.Common.{◌≡◌, ℕ, zero, suc, ◌+◌, ◌-◌, ◌≤◌, ◌==◌, Bool, true, false, List, [], ◌∷◌, ◌++◌, refl, sym, ◌∙◌, ap, arith, subst, length, drop, slice_get, cond, Option, Some, None, if◌then◌else◌}
+use Rattle.std.proofs.Common.{◌≡◌, ℕ, ◌+◌, ◌==◌, Bool, true, false, List, [], ◌∷◌, refl, sym, ◌∙◌, ap, arith, subst, length, drop, slice_get, Option, Some, None, if◌then◌else◌}
 use Rattle.cache_tags.specs.Line.{Line}
 use Rattle.ev_queue.specs.Queue.{Queue}
 use Rattle.gm_cache.specs.State.{Register, CacheState, line_in}
@@ -10,7 +10,6 @@ use Rattle.pkt_pool.specs.declared.cmd.Cmd.TheVariants as cmds
 use Rattle.pkt_pool.specs.declared.packet.Packet.{Packet}
 use Rattle.obj_cache.specs.Held.{targets_of, with_targets, first_gone}
 use Rattle.obj_cache.specs.Step.{Stands, Goes}
-use Rattle.obj_cache.proofs.Parts.{stays_goes}
 
 -- Registers.
 
@@ -121,9 +120,9 @@ pub arrived : (a : ℕ) (now : ℕ) (s₀ s s₁ : CacheState) (q₀ q : Queue) 
 unfolding serving_all
 arrived a now s₀ s s₁ q₀ q o₀ o w e es = w s₁ q o (λ m r₀ p₀ st.
     let same : first_gone a m.cache.registers ≡ with_targets a [] m.cache.registers =
-        ap (λ (l : List Packet). with_targets a (drop 1 l) m.cache.registers) (ap (λ (c : CacheState). targets_of a c.registers) (sym st.state) ∙ e) in
+    ap (λ (l : List Packet). with_targets a (drop 1 l) m.cache.registers) (ap (λ (c : CacheState). targets_of a c.registers) (sym st.state) ∙ e) in
     let served : serving_all a (targets_of a m.cache.registers) now m ≡ m =
-        ap (λ (l : List Packet). serving_all a l now m) (ap (λ (c : CacheState). targets_of a c.registers) (sym st.state) ∙ e) in
+    ap (λ (l : List Packet). serving_all a l now m) (ap (λ (c : CacheState). targets_of a c.registers) (sym st.state) ∙ e) in
     subst (λ (n : CacheMoved). Stands (with_registers (with_targets a [] m.cache.registers) n) r₀ p₀ s₁ q o) (sym served) (record {
       state = es ∙ ap (λ (c : CacheState). let t : CacheState = record c { registers = first_gone a c.registers } in t) st.state
           ∙ ap (λ (l : List Register). let t : CacheState = record m.cache { registers = l } in t) same;
@@ -147,8 +146,8 @@ one_left a rs p e =
     let first = first_of a rs p e in
     let left : targets_of a (first_gone a rs) ≡ drop 1 (targets_of a rs) = targets-with a (drop 1 (targets_of a rs)) (drop 1 (targets_of a rs)) p rs first in
     some_more (targets_of a rs) p (targets_of a (first_gone a rs)) (first ∙ ap (λ (l : List Packet). p ∷ l) (sym left)) where
-  some_more : (l : List Packet) (p : Packet) (ls : List Packet) → l ≡ p ∷ ls → length l ≡ 1 + length ls
-  some_more l p ls e = omega (arith, ap (λ (l : List Packet). length l) e)
+      some_more : (l : List Packet) (p : Packet) (ls : List Packet) → l ≡ p ∷ ls → length l ≡ 1 + length ls
+      some_more l p ls e = omega (arith, ap (λ (l : List Packet). length l) e)
 
 pub none_of : (a : ℕ) (rs : List Register) → slice_get (targets_of a rs) 0 ≡ None → targets_of a rs ≡ []
 none_of a rs e = by (targets_of a rs) e where

@@ -1,5 +1,5 @@
 -- A wake from its start to its end.
-use Rattle.std.proofs.Common.{◌≡◌, ℕ, zero, suc, ◌+◌, ◌-◌, ◌≤◌, ◌||◌, Bool, true, false, List, [], ◌∷◌, ◌++◌, refl, sym, ◌∙◌, ap, arith, subst, length, nat_le, nat_lt, ◌⊎◌, inl, inr}
+use Rattle.std.proofs.Common.{◌≡◌, ℕ, zero, suc, ◌+◌, ◌-◌, ◌||◌, Bool, true, false, List, [], ◌∷◌, ◌++◌, refl, sym, ◌∙◌, ap, arith, subst, length, nat_le, nat_lt, ◌⊎◌, inl, inr}
 use Rattle.std.proofs.lemmas.List.{append-nil}
 use Rattle.ev_queue.specs.Queue.{Queue}
 use Rattle.gm_cache.specs.State.{CacheState}
@@ -14,7 +14,7 @@ use Rattle.gm_words.specs.declared.answer.Answer.{Answer}
 use Rattle.gm_words.specs.declared.answer.Answer.TheVariants as answers
 use Rattle.gm_words.specs.declared.entry.Entry.{Entry}
 use Rattle.gm_model.specs.Deliver.{Item}
-use Rattle.obj_core.specs.Out.{Out, extended}
+use Rattle.obj_core.specs.Out.{Out}
 use Rattle.pkt_pool.specs.declared.packet.Packet.{Packet}
 use Rattle.obj_cache.specs.Step.{Stands, Goes, Wakes}
 

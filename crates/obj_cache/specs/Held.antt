@@ -1,5 +1,5 @@
 -- The registers of a cache as contracts see them. This project's own rule.
-use Rattle.std.specs.Prelude.{◌≡◌, ℕ, ◌-◌, ◌%◌, ◌≤◌, ◌==◌, ◌||◌, nat_le, Bool, if◌then◌else◌, List, [], ◌∷◌, length, drop, slice_get, Option, Some, None, All, IsTrue}
+use Rattle.std.specs.Prelude.{◌≡◌, ℕ, ◌-◌, ◌%◌, ◌≤◌, ◌==◌, ◌||◌, nat_le, Bool, if◌then◌else◌, List, [], ◌∷◌, length, drop, None, All, IsTrue}
 use Rattle.gm_cache.specs.State.{Register, find_register}
 use Rattle.gm_cache.specs.Rule.{fits, has_full}
 use Rattle.gm_words.specs.Allowed.{MayPass}

@@ -1,5 +1,5 @@
 -- How the registers of a cache are kept: by key in the miss registers, and the packets that wait by key in a pool. This project's own rule.
-use Rattle.std.specs.Prelude.{◌≡◌, ℕ, ◌+◌, ◌*◌, ◌≤◌, ◌==◌, Bool, true, false, if◌then◌else◌, List, [], ◌∷◌, length, Option, Some, None, is_some, All}
+use Rattle.std.specs.Prelude.{◌≡◌, ℕ, ◌+◌, ◌*◌, ◌≤◌, ◌==◌, Bool, true, false, List, [], ◌∷◌, length, Option, Some, None, is_some, All}
 use Rattle.cache_mshr.specs.Registers.{Registers, AreSound}
 use Rattle.cache_mshr.specs.Registers as kept
 use Rattle.gm_cache.specs.State.{Register}

@@ -1,5 +1,5 @@
 -- The lines of a cache as contracts see them. This project's own rule.
-use Rattle.std.specs.Prelude.{◌≡◌, ℕ, ◌-◌, ◌/◌, ◌%◌, List, [], length, take, drop, slice_get, slice_index_or, slice_set, Option, Some, None}
+use Rattle.std.specs.Prelude.{ℕ, ◌-◌, ◌/◌, ◌%◌, List, [], length, take, drop, slice_get, slice_index_or, slice_set, Option, Some, None}
 use Rattle.cache_tags.specs.Line.{Line, in_front, come_in}
 use Rattle.gm_cache.specs.State.{find_line}
 use Rattle.gm_cache.specs.Rule.{line_after}

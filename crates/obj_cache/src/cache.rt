@@ -37,6 +37,7 @@ const PLACES: u32 = 512;
 
 /// The port of the requestor above, and that of what is below.
 const ABOVE: PortNo = PortNo(0);
+
 const BELOW: PortNo = PortNo(1);
 
 /// A cache that is configured.
@@ -170,7 +171,15 @@ impl Cache {
     }
 
     /// A request of its own for a whole line is made, and leaves below.
-    fn ask_below(&mut self, cmd: Cmd, addr: u64, bytes: &[u8; 64], now: Tick, q: &mut EventQueue, out: &mut Outbox)
+    fn ask_below(
+        &mut self,
+        cmd: Cmd,
+        addr: u64,
+        bytes: &[u8; 64],
+        now: Tick,
+        q: &mut EventQueue,
+        out: &mut Outbox,
+    )
         requires tick { now ≤ TOP }
         requires room { length self.old.leaving.flow.items < 512 }
         requires number { out.old.next + 1 < 2 ^ 64 }
@@ -203,7 +212,15 @@ impl Cache {
     // Lines.
 
     /// A line comes, and the one that leaves for it is written back if it is dirty.
-    fn install(&mut self, addr: u64, p: &Packet, dirty: bool, now: Tick, q: &mut EventQueue, out: &mut Outbox)
+    fn install(
+        &mut self,
+        addr: u64,
+        p: &Packet,
+        dirty: bool,
+        now: Tick,
+        q: &mut EventQueue,
+        out: &mut Outbox,
+    )
         requires aligned { addr % self.old.lines.line ≡ 0 }
         requires whole { length (carried_bytes p.now) ≡ self.old.lines.line }
         requires size { MayPass p.now }
@@ -557,7 +574,14 @@ impl Cache {
     }
 
     /// A packet is offered: a request above, which is refused where the cache is blocked, or a response below.
-    fn offered(&mut self, port: PortNo, p: &Packet, now: Tick, q: &mut EventQueue, out: &mut Outbox) -> Answer
+    fn offered(
+        &mut self,
+        port: PortNo,
+        p: &Packet,
+        now: Tick,
+        q: &mut EventQueue,
+        out: &mut Outbox,
+    ) -> Answer
         requires size { MayPass p.now }
         requires tick { now ≤ TOP }
         requires few { length (packets_in (shown self.old)) ≤ most_held }

@@ -71,7 +71,13 @@ impl Leaving {
     }
 
     /// Puts a packet at the end, which may be offered from a tick on. If it is the first, its event comes then.
-    pub(crate) fn put(&mut self, p: &Packet, ready: Tick, event: &EventHandle<10>, q: &mut EventQueue)
+    pub(crate) fn put(
+        &mut self,
+        p: &Packet,
+        ready: Tick,
+        event: &EventHandle<10>,
+        q: &mut EventQueue,
+    )
         requires few { length self.old.flow.items ≤ 512 }
         requires room { length self.old.flow.items < self.old.places }
         requires size { MayPass p.now }

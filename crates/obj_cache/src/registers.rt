@@ -40,7 +40,12 @@ impl Model for Registers {
 
 impl Registers {
     /// So many registers, each with places for so many targets, of lines of so many bytes, and none open.
-    pub(crate) fn new(alloc: Global, count: u32, targets: u32, line: u32) -> Result<Registers, NoMemory>
+    pub(crate) fn new(
+        alloc: Global,
+        count: u32,
+        targets: u32,
+        line: u32,
+    ) -> Result<Registers, NoMemory>
         requires few { count ≤ 16 }
         requires some { 1 ≤ targets }
         requires most { targets ≤ most_targets }

@@ -1,10 +1,8 @@
-use Rattle.std.proofs.Common.{◌≡◌, ◌<◌, ◌∙◌, ◌+◌, ◌-◌, ℕ, ap, sym, arith, refl, drop, length, List, None, is_some}
+use Rattle.std.proofs.Common.{◌≡◌, ◌<◌, ◌∙◌, ◌+◌, ◌-◌, ℕ, ap, sym, arith, refl, List}
 use Rattle.std.proofs.lemmas.List.{drop_all}
 use Rattle.cache_mshr.specs.Registers as kept
 use Rattle.cache_mshr.proofs.RegistersLemmas.{targets_within}
 use Rattle.gm_cache.specs.Rule.{newest_bytes}
-use Rattle.gm_model.specs.Memory.{covers}
-use Rattle.gm_model.specs.Xbar.{read_of}
 use Rattle.gm_words.specs.Allowed.{MayPass}
 use Rattle.obj_cache.specs.RegistersKept.{packets_of}
 use Rattle.obj_cache.proofs.ReadLemmas.{all_at, newest_past, newest_gone, newest_other, newest_found}

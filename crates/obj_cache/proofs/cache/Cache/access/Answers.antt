@@ -1,9 +1,9 @@
-use Rattle.std.proofs.Common.{◌≡◌, ◌∙◌, ap, sym, subst, refl, []}
+use Rattle.std.proofs.Common.{◌∙◌, ap, sym, subst, refl, []}
 use Rattle.gm_cache.specs.State.{CacheState}
 use Rattle.gm_cache.specs.Rule.{requesting}
 use Rattle.pkt_pool.specs.declared.cmd.Cmd.TheVariants.{Read}
 use Rattle.obj_cache.proofs.Steps.{noted_out}
-use Rattle.obj_cache.proofs.Coming.{access_hits, access_joins, access_opens, hit, miss, with_used_registers}
+use Rattle.obj_cache.proofs.Coming.{access_hits, access_joins, access_opens, with_used_registers}
 use Rattle.obj_cache.specs.Step.{Goes}
 use Rattle.obj_cache.specs.Shown.{shown}
 use Rattle.obj_cache.proofs.cache.Cache.access.Goals as goal

@@ -1,4 +1,4 @@
-use Rattle.std.proofs.Common.{◌≡◌, ◌∙◌, ap, arith}
+use Rattle.std.proofs.Common.{arith}
 use Rattle.obj_cache.proofs.Steps.{requests_goes, own_request}
 use Rattle.obj_cache.specs.Shown.{shown}
 use Rattle.obj_cache.proofs.cache.Cache.ask_below.Goals as goal

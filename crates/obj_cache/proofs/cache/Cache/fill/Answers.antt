@@ -1,4 +1,4 @@
-use Rattle.std.proofs.Common.{◌≡◌, ℕ, ◌+◌, ◌≤◌, length, ◌∙◌, ap, sym, arith, subst, refl}
+use Rattle.std.proofs.Common.{◌≡◌, ℕ, ◌+◌, ◌≤◌, length, ◌∙◌, ap, sym, arith, subst}
 use Rattle.obj_cache.proofs.Coming.{with_used_registers}
 use Rattle.obj_cache.proofs.Filling.{fills_absent, fills_there, holds}
 use Rattle.obj_core.specs.Kept.{Kept}
@@ -27,10 +27,14 @@ pub serve_waiting-requires-clause-room : goal.serve_waiting-requires-clause-room
 serve_waiting-requires-clause-room c =
     let room = (holds most_held (shown c.args.self.now) c.args.p.now.addr c.requires.few).above in
     elim c.if-not-has.branch [
-      | then-not-has w ↦ has_room c.args.p.now.addr c.if-not-has.self w.install.new.self w.self-is (omega (arith, room,
-          ap (λ (f : Kept). length f.flow.items) w.install.ensures.answers, ap (λ (h : Held). length (targets_of c.args.p.now.addr h.used)) w.install.ensures.registers))
+      | then-not-has w ↦ has_room c.args.p.now.addr c.if-not-has.self w.install.new.self w.self-is (omega (
+        arith,
+        room,
+        ap (λ (f : Kept). length f.flow.items) w.install.ensures.answers,
+        ap (λ (h : Held). length (targets_of c.args.p.now.addr h.used)) w.install.ensures.registers,
+      ))
       | else-not-has w ↦ has_room c.args.p.now.addr c.if-not-has.self c.args.self.now w.self-is (omega (arith, room))
     ] where
-  has_room : (a : ℕ) (k l : Cache) → k ≡ l → length l.answers.flow.items + length (targets_of a l.registers.used) ≤ 512
-      → length k.answers.flow.items + length (targets_of a k.registers.used) ≤ 512
-  has_room a k l e h = subst (λ (k : Cache). length k.answers.flow.items + length (targets_of a k.registers.used) ≤ 512) (sym e) h
+      has_room : (a : ℕ) (k l : Cache) → k ≡ l → length l.answers.flow.items + length (targets_of a l.registers.used) ≤ 512
+          → length k.answers.flow.items + length (targets_of a k.registers.used) ≤ 512
+      has_room a k l e h = subst (λ (k : Cache). length k.answers.flow.items + length (targets_of a k.registers.used) ≤ 512) (sym e) h

@@ -1,4 +1,4 @@
-use Rattle.std.proofs.Common.{◌≡◌, ◌∙◌, ap, sym, subst, Option}
+use Rattle.std.proofs.Common.{◌∙◌, sym, subst, Option}
 use Rattle.cache_tags.specs.Line.{Line, new_line, leaving_line}
 use Rattle.gm_cache.specs.State.{CacheState, set_at}
 use Rattle.gm_cache.specs.Rule.{evicting}

@@ -1,4 +1,4 @@
-use Rattle.std.proofs.Common.{◌≡◌, ◌∙◌, ap, sym, arith, subst}
+use Rattle.std.proofs.Common.{◌∙◌, ap, sym, arith}
 use Rattle.obj_cache.proofs.Filling.{holds}
 use Rattle.obj_cache.proofs.Wakes.{offers_below, offers_above, offers_refused, free, ends_at}
 use Rattle.obj_cache.specs.Shown.{shown, most_held}

@@ -1,4 +1,4 @@
-use Rattle.std.proofs.Common.{◌≡◌, ◌∙◌, ap, sym, arith, subst}
+use Rattle.std.proofs.Common.{◌∙◌, sym, arith}
 use Rattle.obj_cache.proofs.Filling.{returns_filled, returns_unknown, returns_other, holds}
 use Rattle.obj_cache.specs.Shown.{shown, most_held}
 use Rattle.obj_cache.proofs.cache.Cache.returned.Goals as goal

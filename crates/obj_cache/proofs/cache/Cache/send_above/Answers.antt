@@ -1,8 +1,6 @@
-use Rattle.std.proofs.Common.{◌≡◌, ◌∙◌, ap, arith}
-use Rattle.gm_words.specs.Flow.{Flow}
+use Rattle.std.proofs.Common.{ap, arith}
 use Rattle.obj_core.specs.Kept.{Kept}
 use Rattle.obj_cache.proofs.Steps.{sends_above}
-use Rattle.obj_cache.proofs.Parts.{stays_goes}
 use Rattle.obj_cache.specs.Shown.{shown}
 use Rattle.obj_cache.proofs.cache.Cache.send_above.Goals as goal
 

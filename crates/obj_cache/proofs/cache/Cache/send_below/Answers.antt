@@ -1,5 +1,4 @@
-use Rattle.std.proofs.Common.{◌≡◌, ◌∙◌, ap, arith}
-use Rattle.gm_words.specs.Flow.{Flow}
+use Rattle.std.proofs.Common.{ap, arith}
 use Rattle.obj_core.specs.Kept.{Kept}
 use Rattle.obj_cache.proofs.Steps.{sends_below}
 use Rattle.obj_cache.specs.Shown.{shown}

@@ -1,4 +1,4 @@
-use Rattle.std.proofs.Common.{◌≡◌, ◌∙◌, ap, arith}
+use Rattle.std.proofs.Common.{ap, arith}
 use Rattle.obj_core.specs.Kept.{Kept}
 use Rattle.obj_cache.proofs.Steps.{sent_above, sent_below}
 use Rattle.obj_cache.specs.Shown.{shown}

@@ -1,4 +1,4 @@
-use Rattle.std.proofs.Common.{◌≡◌, ◌∙◌, ap, sym}
+use Rattle.std.proofs.Common.{◌∙◌, sym}
 use Rattle.obj_cache.proofs.Parts.{serve_answers, serve_takes, serve_lacks}
 use Rattle.obj_cache.specs.Shown.{shown}
 use Rattle.obj_cache.proofs.cache.Cache.serve.Goals as goal

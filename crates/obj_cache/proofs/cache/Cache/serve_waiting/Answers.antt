@@ -1,10 +1,9 @@
-use Rattle.std.proofs.Common.{◌≡◌, refl, ◌+◌, ◌∙◌, ap, arith, sym, subst, length, drop}
-use Rattle.gm_cache.specs.State.{CacheState}
-use Rattle.obj_cache.specs.Held.{targets_of, first_gone, Held}
+use Rattle.std.proofs.Common.{refl, ◌∙◌, ap, arith, sym, subst, length, drop}
+use Rattle.obj_cache.specs.Held.{targets_of, Held}
 use Rattle.obj_cache.specs.Shown.{shown}
 use Rattle.obj_cache.specs.Step.{HasBoth}
 use Rattle.obj_cache.proofs.Coming.{with_used_registers}
-use Rattle.obj_cache.proofs.Waiting.{IsOnWay, goes_on, arrived, first_of, one_left, none_of, none_gone}
+use Rattle.obj_cache.proofs.Waiting.{goes_on, arrived, first_of, one_left, none_of, none_gone}
 use Rattle.obj_cache.proofs.cache.Cache.serve_waiting.Goals as goal
 
 pub loop-p-init : goal.loop-p-init

@@ -1,7 +1,5 @@
 use Rattle.std.proofs.Common.{◌≡◌, ◌+◌, ◌≤◌, length}
-use Rattle.gm_cache.specs.State.{CacheState}
 use Rattle.obj_cache.specs.Held.{targets_of}
-use Rattle.obj_cache.specs.Step.{HasBoth}
 use Rattle.obj_cache.specs.Shown.{shown, StaysAs}
 use Rattle.obj_cache.proofs.Waiting.{IsOnWay}
 use Rattle.obj_cache.proofs.cache.Cache.serve_waiting.Given as goal
@@ -15,7 +13,7 @@ invariant-loop-p l = record {
   table : l.q.table ≡ l.initial.q.table;
   stays : StaysAs l.initial.self l.self;
   leaving : l.self.leaving ≡ l.initial.self.leaving;
-  items : length l.out.items ≡ length l.initial.out.items
+  items : length l.out.items ≡ length l.initial.out.items;
 }
 
 abbrev pub decreases-loop-p : goal.decreases-loop-p

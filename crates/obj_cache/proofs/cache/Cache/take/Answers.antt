@@ -1,4 +1,4 @@
-use Rattle.std.proofs.Common.{◌≡◌, ◌-◌, ◌%◌, ◌∙◌, ap, arith, sym, subst}
+use Rattle.std.proofs.Common.{◌≡◌, ◌-◌, ◌%◌, ◌∙◌, arith, sym, subst}
 use Rattle.gm_cache.specs.State.{line_in, find_register}
 use Rattle.gm_cache.specs.Rule.{access_in, back_in}
 use Rattle.obj_cache.proofs.Coming.{takes_passing, takes_access, takes_back}

@@ -1,4 +1,3 @@
-use Rattle.std.proofs.Common.{◌≡◌, ◌∙◌, ap, sym, arith, subst}
 use Rattle.obj_cache.proofs.Wakes.{wakes_offered, wakes_at_event, wakes_taken, wakes_refused, wakes_retry, wakes_other}
 use Rattle.obj_cache.specs.Shown.{shown}
 use Rattle.obj_cache.proofs.cache.Cache.wake.Goals as goal

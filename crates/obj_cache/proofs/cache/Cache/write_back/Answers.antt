@@ -1,4 +1,4 @@
-use Rattle.std.proofs.Common.{◌≡◌, ◌∙◌, ap, sym}
+use Rattle.std.proofs.Common.{◌∙◌, ap, sym}
 use Rattle.obj_cache.proofs.Coming.{back_hits, back_joins, back_comes, with_used_registers}
 use Rattle.obj_cache.specs.Shown.{shown}
 use Rattle.obj_cache.proofs.cache.Cache.write_back.Goals as goal

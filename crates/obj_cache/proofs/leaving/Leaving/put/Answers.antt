@@ -1,4 +1,4 @@
-use Rattle.std.proofs.Common.{◌≡◌, ◌∙◌, ap, arith, sym, ℕ, ◌+◌}
+use Rattle.std.proofs.Common.{◌∙◌, ap, arith, sym, ◌+◌}
 use Rattle.obj_core.specs.Kept.{Kept, outlet_of}
 use Rattle.gm_cache.specs.Rule.{backs}
 use Rattle.obj_cache.proofs.Backs.{put_backs, backs-le}

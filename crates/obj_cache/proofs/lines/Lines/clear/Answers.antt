@@ -1,4 +1,3 @@
-use Rattle.std.proofs.Common.{◌≡◌}
 use Rattle.obj_cache.proofs.LinesLemmas.{cleared}
 use Rattle.obj_cache.proofs.lines.Lines.clear.Goals as goal
 

@@ -1,4 +1,4 @@
-use Rattle.std.proofs.Common.{◌≡◌, ◌∙◌, ap, sym}
+use Rattle.std.proofs.Common.{◌∙◌, ap, sym}
 use Rattle.obj_cache.specs.Held.{Held, targets_of}
 use Rattle.obj_cache.proofs.CallLemmas.{served, view_closed, kept_closed, closed_none}
 use Rattle.obj_cache.proofs.registers.Registers.close.Goals as goal

@@ -1,4 +1,4 @@
-use Rattle.std.proofs.Common.{◌≡◌, ◌∙◌, ◌≤◌, ap, arith, sym, refl, length, Option, Some, None, is_some}
+use Rattle.std.proofs.Common.{◌∙◌, ap, arith, is_some}
 use Rattle.obj_cache.proofs.RegistersLemmas.{shown_found, few_targets}
 use Rattle.obj_cache.proofs.registers.Registers.has.Goals as goal
 

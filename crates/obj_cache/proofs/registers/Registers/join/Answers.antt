@@ -1,5 +1,5 @@
-use Rattle.std.proofs.Common.{◌≡◌, ◌∙◌, ap, sym}
-use Rattle.obj_cache.specs.Held.{Held, is_full, IsTarget}
+use Rattle.std.proofs.Common.{◌∙◌, ap, sym}
+use Rattle.obj_cache.specs.Held.{Held, is_full}
 use Rattle.obj_cache.proofs.RegistersLemmas.{full_shown, pool_free}
 use Rattle.obj_cache.proofs.CallLemmas.{view_joined, kept_joined, joined_none}
 use Rattle.obj_cache.proofs.registers.Registers.join.Goals as goal

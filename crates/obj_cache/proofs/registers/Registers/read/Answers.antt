@@ -1,8 +1,7 @@
-use Rattle.std.proofs.Common.{◌≡◌, ◌<◌, ◌∙◌, ◌+◌, ◌-◌, ℕ, ap, sym, arith, refl, Option, List, None, is_some}
-use Rattle.cache_mshr.specs.Registers as kept
+use Rattle.std.proofs.Common.{◌≡◌, ◌<◌, ◌∙◌, ◌+◌, ◌-◌, ℕ, ap, sym, arith, refl, None}
 use Rattle.gm_cache.specs.Rule.{newest_bytes}
 use Rattle.gm_model.specs.Xbar.{read_of}
-use Rattle.obj_cache.specs.RegistersKept.{packets_of, packets_at}
+use Rattle.obj_cache.specs.RegistersKept.{packets_at}
 use Rattle.obj_cache.proofs.ReadLemmas.{newest_here, newest_of, newest_no, none_of, fits_at}
 use Rattle.obj_cache.proofs.registers.Registers.read.Goals as goal
 

@@ -1,6 +1,6 @@
-use Rattle.std.proofs.Common.{◌≡◌, ◌∙◌, ap, sym}
+use Rattle.std.proofs.Common.{◌∙◌, ap}
 use Rattle.gm_cache.specs.State.{find_register}
-use Rattle.obj_cache.specs.Held.{Held, is_full, IsTarget}
+use Rattle.obj_cache.specs.Held.{Held, is_full}
 use Rattle.obj_cache.proofs.RegistersLemmas.{full_shown, pool_free, none_found}
 use Rattle.obj_cache.proofs.CallLemmas.{view_opened, kept_opened}
 use Rattle.obj_cache.proofs.registers.Registers.start.Goals as goal

@@ -1,7 +1,5 @@
-use Rattle.std.proofs.Common.{◌≡◌, ◌∙◌, ap, sym, Some, None, IfSome, slice_get}
+use Rattle.std.proofs.Common.{◌∙◌, sym}
 use Rattle.cache_mshr.proofs.RegistersLemmas.{none_left}
-use Rattle.obj_cache.specs.Held.{Held, IsTarget, targets_of}
-use Rattle.obj_cache.proofs.RegistersLemmas.{targets_shown}
 use Rattle.obj_cache.proofs.CallLemmas.{first_packet, view_first_gone, kept_first_gone, first_target, view_none_gone, kept_none_gone, gone_none, first_none, none_first}
 use Rattle.obj_cache.proofs.registers.Registers.take_first.Goals as goal
 
