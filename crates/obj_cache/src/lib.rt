@@ -3,6 +3,7 @@
 //! Its promise: each call is the cache's rule. Read `specs/Shown.antt` first, and gm_cache's `specs/Rule.antt`. Only `Cache::start` takes memory.
 #![tactic(auto)]
 
+mod answer;
 mod cache;
 mod leaving;
 mod lines;

@@ -4,7 +4,6 @@ ghost use Rattle.std.specs.Option.{option_map};
 ghost use Rattle.std.specs.Int.{is_power_of_two};
 ghost use Rattle.cache_tags.specs.Kept.{line_at, IsSoundCache};
 ghost use Rattle.cache_tags.specs.Line.{new_line, leaving_line, victim};
-ghost use Rattle.pkt_pool.specs.Packet.{read_response};
 ghost use Rattle.obj_cache.specs.Held.{IsTarget};
 ghost use Rattle.gc_base.specs.declared.limits.TheConstants.{WAYS_MAX};
 ghost use Rattle.gm_words.specs.Allowed.{MayPass};
@@ -14,6 +13,7 @@ ghost use Rattle.obj_core.specs.Lines.{line_info, line_bytes};
 ghost use Rattle.obj_cache.specs.Sets.{nth_in, set_at, line_in, served_in, response_by, response_in, come_to, bytes_in};
 ghost use Rattle.obj_cache.specs.LinesKept.{served_at};
 
+use crate::answer::answer;
 use cache_tags::{Place, Tags, Victim};
 use gc_base::NoMemory;
 use gm_model::{Cmd, Packet};
@@ -153,16 +153,4 @@ fn serve_at(tags: &mut Tags, at: Place, addr: u64, p: &mut Packet)
         Cmd::WriteBack => tags.write(at, from as u32, &p.bytes[..p.size as usize]),
         Cmd::ReadResp | Cmd::WriteResp => {}
     }
-}
-
-/// Answers a read by the bytes of a line from one on.
-#[tactic(auto, using(std::proofs::lemmas::List::take_min))]
-fn answer(p: &mut Packet, line: &[u8], from: usize)
-    requires size { MayPass p.old }
-    requires within { from ≤ length line.now }
-    ensures { p.new ≡ read_response p.old (take p.old.size (drop from line.now)) }
-{
-    let rest = &line[from..];
-    let count = (p.size as usize).min(rest.len());
-    p.answer(&rest[..count]);
 }

@@ -11,6 +11,7 @@ ghost use Rattle.cache_mshr.specs.Registers.{is_open, AreSound};
 ghost use Rattle.obj_cache.specs.Held.{is_full, IsTarget, targets_of, first_gone};
 ghost use Rattle.obj_cache.specs.RegistersKept.{packets_at};
 
+use crate::answer::answer;
 use cache_mshr::Mshrs;
 use gc_base::NoMemory;
 use gc_base::limits::TARGETS_MAX;
@@ -166,7 +167,7 @@ fn read_at(mshrs: &Mshrs, pool: &Pool, register: usize, p: &mut Packet) -> bool
         if let Some(key) = mshrs.target(register, n) {
             if let Some(held) = pool.get(key) {
                 if covers(held, p.addr) {
-                    answer(p, held);
+                    answer_by(p, held);
                     return true;
                 }
             }
@@ -183,15 +184,12 @@ fn covers(held: &Packet, addr: u64) -> bool
 }
 
 /// Answers a read by what a write-back that covers its address carries.
-#[tactic(auto, using(std::proofs::lemmas::List::take_min))]
-fn answer(p: &mut Packet, held: &Packet)
+fn answer_by(p: &mut Packet, held: &Packet)
     requires size { MayPass p.old }
     requires bytes { MayPass held.now }
     requires covers { IsTrue (covers held.now p.old.addr) }
     ensures { p.new ≡ read_response p.old (take p.old.size (drop (p.old.addr - held.now.addr) (carried_bytes held.now))) }
 {
     let from = (p.addr - held.addr) as usize;
-    let rest = &held.bytes[..held.size as usize][from..];
-    let count = (p.size as usize).min(rest.len());
-    p.answer(&rest[..count]);
+    answer(p, &held.bytes[..held.size as usize], from);
 }

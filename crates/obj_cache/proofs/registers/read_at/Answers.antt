@@ -22,8 +22,8 @@ loop-n-init c =
 below : (n m : ℕ) → 0 < m → n ≡ m - 1 → m ≡ n + 1
 below n m l e = omega (arith, l, e)
 
-pub answer-requires-clause-bytes : goal.answer-requires-clause-bytes
-answer-requires-clause-bytes c =
+pub answer_by-requires-clause-bytes : goal.answer_by-requires-clause-bytes
+answer_by-requires-clause-bytes c =
     all_at MayPass c.args.pool.now (kept.targets_of c.args.register c.args.mshrs.now.used) (c.loop-n.n - 1) c.in-Some.key c.in-Some-get.held.now
     c.requires.bytes c.in-Some.ensures c.in-Some-get.ensures
 
@@ -37,7 +37,7 @@ pub returns-then-covers-clause-packet : goal.returns-then-covers-clause-packet
 returns-then-covers-clause-packet c =
     rw (newest_found c.args.pool.now (kept.targets_of c.args.register c.args.mshrs.now.used) (c.loop-n.n - 1) c.in-Some.key c.args.p.now.addr c.args.p.now.size
     c.in-Some-get.held.now c.in-Some.ensures c.in-Some-get.ensures (rw (← c.loop-n.invariant.read) (sym c.covers.ensures ∙ c.if-covers.true))
-    (rw (← below (c.loop-n.n - 1) c.loop-n.n c.loop-n-test.true refl) c.loop-n.invariant.newer)) (rw (← c.loop-n.invariant.read) c.answer.ensures)
+    (rw (← below (c.loop-n.n - 1) c.loop-n.n c.loop-n-test.true refl) c.loop-n.invariant.newer)) (rw (← c.loop-n.invariant.read) c.answer_by.ensures)
 
 pub loop-n-preserved-else-covers : goal.loop-n-preserved-else-covers
 loop-n-preserved-else-covers c =
