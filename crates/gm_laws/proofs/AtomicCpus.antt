@@ -97,7 +97,7 @@ by_step rs ram s t w next list changes es v ok calm portless due came passed ser
     numbers = λ f e. ap (λ x. weigh f (responses_of x)) served ∙ sym (ap (λ x. weigh f (requests_of x)) served);
   };
   spends = record { few = λ p. omega (arith, portless.offers_none p); light = light };
-  same = record { cpu = refl; instant = refl; empty = λ e. (refl, refl) };
+  same = record { cpu = refl; instant = refl; caches = refl; empty = λ e. (refl, refl) };
   quiet = λ p h. absurd (omega (arith, h, calm.told_none p));
   acts = sent;
   hops = portless.hops s;
@@ -157,9 +157,11 @@ module _ (rs : List Route) (ram : ℕ) (s : AtomicCpuState) (ok : AtomicOk ram s
         fits = λ n. refl;
         answered = omega (arith, none_core m may);
         passed = refl;
-        serves = λ n l h. none n;
-        stays = λ h. refl;
-        remains = λ h. refl;
+        recalls = λ plain. record {
+          serves = λ n l h. none n;
+          stays = λ h. refl;
+          remains = λ h. refl;
+        };
       })
       (λ m x e f may. (let z : Thought ram x (atomic_doing s.stage) [] zs [] (mind x (atomic_doing s.stage)) = silent (atomic_doing s.stage) zs (none_core m may) in
       subst (λ (n : Mind). Thinks ram n (atomic_face s) (atomic_face (record s { due = d })) [] [] (record no_moves { answered = zs })) (sym f)

@@ -62,7 +62,7 @@ blank_keeps rs ram k next w zs calm due came none_core = record {
   due = due;
   conserves = record { kept = []; before = λ f e. omega (arith, came f, calm.out_none f bare_face); after = λ f e. refl; numbers = λ f e. refl };
   spends = record { few = λ p. omega arith; light = omega arith };
-  same = record { cpu = refl; instant = refl; empty = λ e. absurd (cc e) };
+  same = record { cpu = refl; instant = refl; caches = refl; empty = λ e. absurd (cc e) };
   quiet = λ p h. absurd (omega (arith, h, calm.told_none p));
   acts = tt;
   hops = tt;
@@ -72,9 +72,11 @@ blank_keeps rs ram k next w zs calm due came none_core = record {
     fits = λ n. refl;
     answered = omega (arith, none_core m may);
     passed = refl;
-    serves = λ n l h. none n;
-    stays = λ h. refl;
-    remains = λ h. refl;
+    recalls = λ plain. record {
+      serves = λ n l h. none n;
+      stays = λ h. refl;
+      remains = λ h. refl;
+    };
   };
   thinks = λ m e may. absurd (cc e);
 }

@@ -165,7 +165,7 @@ module _ (rs : List Route) (ram : ℕ) (s : ServerState) (ok : ServerOk rs ram s
           few = λ p. omega (arith, b.few p, offers-append p ls m.acts, no_offers p ls b.levels);
           light = omega (arith, b.light, weight-append ls m.acts);
         };
-        same = record { cpu = refl; instant = refl; empty = λ e. absurd (cc e) };
+        same = record { cpu = refl; instant = refl; caches = refl; empty = λ e. absurd (cc e) };
         quiet =
             λ p h. (let q = b.quiet p h in record { entries = q.0; moves = q.1; passed = levels_passed ls m.acts b.levels ∙ b.passed; mind = refl; memory = q.2 });
         acts = levels_acts ls m.acts b.levels b.acts;
@@ -221,7 +221,7 @@ module _ (rs : List Route) (ram : ℕ) (s : ServerState) (ok : ServerOk rs ram s
         due = due;
         conserves = con;
         spends = record { few = λ p. omega (arith, no_offers p ls levels); light = omega (arith, light) };
-        same = record { cpu = refl; instant = refl; empty = λ e. absurd (cc e) };
+        same = record { cpu = refl; instant = refl; caches = refl; empty = λ e. absurd (cc e) };
         quiet = λ p h. absurd (omega (arith, h, (mute p).0));
         acts = levels_ok ls levels;
         hops = levels_hop (server_face s) ls levels;
@@ -231,10 +231,12 @@ module _ (rs : List Route) (ram : ℕ) (s : ServerState) (ok : ServerOk rs ram s
           fits = λ n. ap (weigh (bad rs ram n)) none_made;
           answered = omega (arith, answered k may, ap (weigh core) none_absorbed);
           passed = ap (weigh core) (no_passed ls levels);
-          serves =
-              λ m l c. rw none_served (subst (λ (o : Option (List ℕ)). Serves rs m [] [] (seen o m)) (sym view) (subst (λ (n : List ℕ). Serves rs m [] [] n) (sym c) (none m)));
-          stays = λ h. view ∙ h;
-          remains = λ h. sym view ∙ h;
+          recalls = λ plain. record {
+            serves =
+                λ m l c. rw none_served (subst (λ (o : Option (List ℕ)). Serves rs m [] [] (seen o m)) (sym view) (subst (λ (n : List ℕ). Serves rs m [] [] n) (sym c) (none m)));
+            stays = λ h. view ∙ h;
+            remains = λ h. sym view ∙ h;
+          };
         };
         thinks = λ k e may. absurd (cc e);
       }
@@ -248,9 +250,11 @@ module _ (rs : List Route) (ram : ℕ) (s : ServerState) (ok : ServerOk rs ram s
     fits = λ n. refl;
     answered = refl;
     passed = ap (weigh core) passed;
-    serves = λ m l c. subst (λ (o : Option (List ℕ)). Serves rs m [] es (seen o m)) (sym view) (subst (λ (n : List ℕ). Serves rs m [] es n) (sym c) (notes m));
-    stays = λ h. view ∙ h;
-    remains = λ h. sym view ∙ h;
+    recalls = λ plain. record {
+      serves = λ m l c. subst (λ (o : Option (List ℕ)). Serves rs m [] es (seen o m)) (sym view) (subst (λ (n : List ℕ). Serves rs m [] es n) (sym c) (notes m));
+      stays = λ h. view ∙ h;
+      remains = λ h. sym view ∙ h;
+    };
   }
 
   calm_items : (m : Moved) (items : List Queued) → IsCalm items m → (f : Packet → ℕ) → weigh f (queued_packets m.flow.items) ≡ weigh f (queued_packets items)
@@ -556,9 +560,11 @@ module _ (rs : List Route) (ram : ℕ) (s : ServerState) (ok : ServerOk rs ram s
           fits = λ n. refl;
           answered = refl;
           passed = ap (weigh core) (levels_passed r.acts m.acts facts.levels ∙ calm.passed);
-          serves = facts.serves;
-          stays = facts.stays;
-          remains = facts.remains;
+          recalls = λ plain. record {
+            serves = facts.serves;
+            stays = facts.stays;
+            remains = facts.remains;
+          };
         }) where
           or_left : (a b : Bool) → a ≡ true → (a || b) ≡ true
           or_left a b h = ap (λ t. t || b) h
@@ -688,12 +694,15 @@ module _ (rs : List Route) (ram : ℕ) (s : ServerState) (ok : ServerOk rs ram s
         held = refl;
         cpu = refl;
         instant = refl;
+        caches = refl;
         mindless = (refl, refl);
         response = facts.response;
         id = facts.id;
-        serves = facts.serves;
-        stays = facts.stays;
-        remains = facts.remains;
+        recalls = λ plain. record {
+          serves = facts.serves;
+          stays = facts.stays;
+          remains = facts.remains;
+        };
       } where
         due : (n : ℕ) (z : Bool) → (n == 0) ≡ z → ((b : Bool) → due_after (serve s.device x now).changes b 0 ≡ b)
             → ((n : ℕ) → (n == 0) ≡ false → device_due (serve s.device x now).device n ≡ due_after (serve s.device x now).changes (device_due s.device n) n)

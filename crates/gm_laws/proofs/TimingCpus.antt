@@ -124,7 +124,7 @@ by_step rs ram s t w next answer acts changes es v k quiet mindless thinks = rec
   due = k.due;
   conserves = k.conserves;
   spends = record { few = k.few; light = omega (arith, k.light) };
-  same = record { cpu = refl; instant = refl; empty = λ e. cc };
+  same = record { cpu = refl; instant = refl; caches = refl; empty = λ e. cc };
   quiet = λ p h. (let q = quiet p h in record { entries = q.0; moves = q.1; passed = k.passed; mind = q.2; memory = refl });
   acts = k.sent;
   hops = no_pass (timing_face s) acts k.passed;
@@ -248,9 +248,11 @@ module _ (rs : List Route) (ram : ℕ) (s : TimingCpuState) (ok : TimingOk ram s
         fits = λ n. refl;
         answered = omega (arith, none_core m may);
         passed = refl;
-        serves = λ n l h. none n;
-        stays = λ h. refl;
-        remains = λ h. refl;
+        recalls = λ plain. record {
+          serves = λ n l h. none n;
+          stays = λ h. refl;
+          remains = λ h. refl;
+        };
       })
       (λ m x e f may. (let z : Thought ram x (timing_doing s.stage) [] zs [] (mind x (timing_doing s.stage)) = silent (timing_doing s.stage) zs (none_core m may) in
       subst (λ (n : Mind). Thinks ram n (timing_face s) (timing_face (record s { due = d })) [] [] (record no_moves { answered = zs })) (sym f)
@@ -376,7 +378,7 @@ module _ (rs : List Route) (ram : ℕ) (s : TimingCpuState) (ok : TimingOk ram s
   response_keeps next now port p resp None st at e =
       by_step rs ram s s (wakes.Offer port p) next answers.Taken [] [] [] (record no_moves { answered = p ∷ [] })
       (still_step rs ram s ok (wakes.Offer port p) answers.Taken (calm_offer port p) s.due (λ n. refl) (p ∷ []) (λ f. omega arith)) (λ q h. absurd (omega (arith, h)))
-      (λ m z may. record { mind = ap (mind_with (timing_doing s.stage)) z; made = refl; fits = λ n. refl; answered = omega (arith, may.foreign (ap (mind_with (timing_doing s.stage)) z) refl); passed = refl; serves = λ n l h. none n; stays = λ h. refl; remains = λ h. refl })
+      (λ m z may. record { mind = ap (mind_with (timing_doing s.stage)) z; made = refl; fits = λ n. refl; answered = omega (arith, may.foreign (ap (mind_with (timing_doing s.stage)) z) refl); passed = refl; recalls = λ plain. record { serves = λ n l h. none n; stays = λ h. refl; remains = λ h. refl } })
       (λ m x z f may. absurd (no_arch x (sym z ∙ at))) where
         no_arch : (x : Arch) → Some x ≡ None → ⊥
         no_arch x z = cc
@@ -484,9 +486,11 @@ module _ (rs : List Route) (ram : ℕ) (s : TimingCpuState) (ok : TimingOk ram s
         fits = λ n. refl;
         answered = refl;
         passed = ap (weigh core) k.passed;
-        serves = λ n l h. none n;
-        stays = λ h. refl;
-        remains = λ h. refl;
+        recalls = λ plain. record {
+          serves = λ n l h. none n;
+          stays = λ h. refl;
+          remains = λ h. refl;
+        };
       })
       (λ m x e f may. (let z : Thought ram x (timing_doing s.stage) [] [] [] (mind x (timing_doing s.stage)) = silent (timing_doing s.stage) [] refl in
       subst (λ (n : Mind). Thinks ram n (timing_face s) (timing_face (record s { stage = to })) list [] no_moves) (sym f)

@@ -381,7 +381,7 @@ module _ (rs : List Route) (ram : ℕ) (s : XbarState) (ok : XbarOk rs s) where
         due = λ n. lane_due p m.lane k w m.acts m.changes here law.flow b.side_due b.others n ∙ sym (b.changed (due_before w (layer_due s n) n) n);
         conserves = b.conserves;
         spends = record { few = b.few; light = omega (arith, b.light) };
-        same = record { cpu = refl; instant = refl; empty = λ e. absurd (cc e) };
+        same = record { cpu = refl; instant = refl; caches = refl; empty = λ e. absurd (cc e) };
         quiet = λ q h. (let z = b.quiet q h in record { entries = z.0; moves = z.1; passed = b.passed; mind = refl; memory = refl });
         acts = b.acts;
         hops = no_pass (xbar_face s) (more ++ m.acts) b.passed;
@@ -391,9 +391,11 @@ module _ (rs : List Route) (ram : ℕ) (s : XbarState) (ok : XbarOk rs s) where
           fits = λ j. ap (weigh (bad rs ram j)) b.made;
           answered = omega (arith, ap (weigh core) b.answered, ap (weigh core) b.absorbed);
           passed = ap (weigh core) b.passed;
-          serves = λ j l c. notes n may j;
-          stays = λ h. refl;
-          remains = λ h. refl;
+          recalls = λ plain. record {
+            serves = λ j l c. notes n may j;
+            stays = λ h. refl;
+            remains = λ h. refl;
+          };
         };
         thinks = λ n e may. absurd (cc e);
       }
@@ -764,7 +766,7 @@ module _ (rs : List Route) (ram : ℕ) (s : XbarState) (ok : XbarOk rs s) where
         due = due;
         conserves = conserves;
         spends = record { few = few; light = omega (arith, light) };
-        same = record { cpu = refl; instant = refl; empty = λ e. absurd (cc e) };
+        same = record { cpu = refl; instant = refl; caches = refl; empty = λ e. absurd (cc e) };
         quiet = λ q h. absurd (omega (arith, h, mute q));
         acts = sent;
         hops = no_pass (xbar_face s) list passed;
@@ -774,9 +776,11 @@ module _ (rs : List Route) (ram : ℕ) (s : XbarState) (ok : XbarOk rs s) where
           fits = λ j. ap (weigh (bad rs ram j)) made;
           answered = gone n may;
           passed = ap (weigh core) passed;
-          serves = λ j l c. notes n may j;
-          stays = λ h. refl;
-          remains = λ h. refl;
+          recalls = λ plain. record {
+            serves = λ j l c. notes n may j;
+            stays = λ h. refl;
+            remains = λ h. refl;
+          };
         };
         thinks = λ n e may. absurd (cc e);
       }
@@ -1204,12 +1208,15 @@ module _ (rs : List Route) (ram : ℕ) (s : XbarState) (ok : XbarOk rs s) where
           held = refl;
           cpu = refl;
           instant = refl;
+          caches = refl;
           mindless = (refl, refl);
           response = fault_answers x x.cmd refl plain;
           id = fault_id x x.cmd;
-          serves = λ m l h. serves m m m (record { request = x; response = fault_response x x.cmd }) [] [] [] (fault_service rs x x.cmd m refl goes.0) (none m);
-          stays = λ h. refl;
-          remains = λ h. refl;
+          recalls = λ e. record {
+            serves = λ m l h. serves m m m (record { request = x; response = fault_response x x.cmd }) [] [] [] (fault_service rs x x.cmd m refl goes.0) (none m);
+            stays = λ h. refl;
+            remains = λ h. refl;
+          };
         }
     by false z =
         let f = layer_facts x (ap (λ n. n == length s.ports) same ∙ z) in

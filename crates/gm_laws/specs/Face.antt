@@ -28,6 +28,7 @@ pub record Face : Type 0 where
   pub cpu : Bool  -- it is a CPU, active or not
   pub instant : Bool  -- and its packets are passed at once
   pub memory : Option (List ℕ)  -- RAM's bytes, where it is memory
+  pub caches : Bool  -- it has lines of memory: a cache
   pub toil : ℕ  -- what a served packet may still cause in this event
 
 pub record FaceOk (f : Face) : Type 0 where
@@ -82,6 +83,7 @@ pub record Law (f : Face) (w : Wake) (g : Face) (answer : Answer) (acts : List A
 pub record IsSame (f g : Face) : Type 0 where
   pub cpu : g.cpu ≡ f.cpu
   pub instant : g.instant ≡ f.instant
+  pub caches : g.caches ≡ f.caches
   pub empty : f.instant ≡ true → (f.packets ≡ []) × (g.packets ≡ [])
 
 -- whether the event of the slot n is pending, once that was taken out whose wake it is

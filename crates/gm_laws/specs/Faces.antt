@@ -99,6 +99,7 @@ bare_face = record {
   cpu = false;
   instant = false;
   memory = None;
+  caches = false;
   toil = 0;
 }
 
@@ -166,6 +167,7 @@ timing_face s = record {
   cpu = true;
   instant = false;
   memory = None;
+  caches = false;
   toil = 0;
 }
 

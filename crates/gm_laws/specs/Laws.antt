@@ -1,6 +1,7 @@
 -- All that the theorems on machines ask of the parts, whichever kinds they are of. This project's own laws.
-use Rattle.std.specs.Prelude.{◌≡◌, ℕ, ◌+◌, ◌≤◌, ◌<◌, true, false, List, [], ◌∷◌, length, None}
+use Rattle.std.specs.Prelude.{◌≡◌, ℕ, ◌+◌, ◌≤◌, ◌<◌, true, false, List, [], ◌∷◌, None}
 use Rattle.pkt_pool.specs.Packet.{is_response, is_write_back}
+use Rattle.gm_words.specs.Moves.{Moves, no_moves}
 use Rattle.gm_words.specs.Routes.{Route}
 use Rattle.gm_words.specs.declared.answer.Answer.TheVariants as answers
 use Rattle.pkt_pool.specs.declared.packet.Packet.{Packet}
@@ -15,7 +16,7 @@ use Rattle.gm_laws.specs.Words.{offers}
 use Rattle.gm_laws.specs.Face.{Face, Law, MayWake, TellsDue, passed_packets}
 use Rattle.gm_laws.specs.Faces.{face_of, IsOk, Keeps, AllActsOk}
 use Rattle.gm_laws.specs.Fuel.{weight}
-use Rattle.gm_laws.specs.Program.{Serves, seen}
+use Rattle.gm_laws.specs.Program.{Recalls}
 
 -- every part's rule for a wake meets the laws
 abbrev pub WakesHold : Type 0
@@ -33,6 +34,10 @@ pub record GoesOn (f : Face) (o : ObjState) (x : Packet) (v : Passed) (port : �
   pub sends : f.sends port x ≡ true
   pub there : port < f.ports
 
+-- what is served of a packet that ends its way
+abbrev pub done_moves : Packet → Passed → Moves
+done_moves x v = record no_moves { served = record { request = x; response = v.packet } ∷ [] }
+
 -- what a part owes that serves a packet, or refuses it by fault, at once
 pub record IsDone (rs : List Route) (ram : ℕ) (f : Face) (x : Packet) (v : Passed) : Type 0 where
   pub ok : IsOk rs ram v.state
@@ -45,12 +50,11 @@ pub record IsDone (rs : List Route) (ram : ℕ) (f : Face) (x : Packet) (v : Pas
   pub held : (face_of v.state).packets ≡ f.packets
   pub cpu : (face_of v.state).cpu ≡ f.cpu
   pub instant : (face_of v.state).instant ≡ f.instant
+  pub caches : (face_of v.state).caches ≡ f.caches
   pub mindless : (f.mind ≡ None) × ((face_of v.state).mind ≡ None)
   pub response : is_response v.packet.cmd ≡ true
   pub id : v.packet.id ≡ x.id
-  pub serves : (m : List ℕ) → length m ≡ ram → seen f.memory m ≡ m → Serves rs m (record { request = x; response = v.packet } ∷ []) v.entries (seen (face_of v.state).memory m)
-  pub stays : f.memory ≡ None → (face_of v.state).memory ≡ None
-  pub remains : (face_of v.state).memory ≡ None → f.memory ≡ None
+  pub recalls : f.caches ≡ false → Recalls rs ram f (face_of v.state) v.entries (done_moves x v)
 
 abbrev pub WayKeeps : List Route → ℕ → Face → ObjState → Packet → Passed → Way → Type 0
 WayKeeps rs ram f o x v (ways.Pass port l) = GoesOn f o x v port.0

@@ -196,6 +196,12 @@ pub record MayThink (rs : List Route) (ram : ℕ) (m : Mind) (f : Face) (w : Wak
   pub response : (x : Packet) (l : ℕ) → w ≡ wakes.AtomicDone x l → is_response x.cmd ≡ true
   pub lines : (b : ℕ) (l : Bool) → w ≡ wakes.Line b l → is_line b ≡ true
 
+-- what a part without lines serves is right over RAM's bytes where it has them, and over any where it has none
+pub record Recalls (rs : List Route) (ram : ℕ) (f g : Face) (es : List Entry) (v : Moves) : Type 0 where
+  pub serves : (m : List ℕ) → length m ≡ ram → seen f.memory m ≡ m → Serves rs m v.served es (seen g.memory m)
+  pub stays : f.memory ≡ None → g.memory ≡ None
+  pub remains : g.memory ≡ None → f.memory ≡ None
+
 -- what a part that isn't the active CPU does
 pub record Mindless (rs : List Route) (ram : ℕ) (f g : Face) (acts : List Act) (es : List Entry) (v : Moves) : Type 0 where
   pub mind : g.mind ≡ None
@@ -203,9 +209,7 @@ pub record Mindless (rs : List Route) (ram : ℕ) (f g : Face) (acts : List Act)
   pub fits : (m : Mind) → weigh (bad rs ram m) v.made ≡ 0
   pub answered : weigh core v.answered + weigh core v.absorbed ≡ 0
   pub passed : weigh core (passed_packets acts) ≡ 0
-  pub serves : (m : List ℕ) → length m ≡ ram → seen f.memory m ≡ m → Serves rs m v.served es (seen g.memory m)
-  pub stays : f.memory ≡ None → g.memory ≡ None
-  pub remains : g.memory ≡ None → f.memory ≡ None
+  pub recalls : f.caches ≡ false → Recalls rs ram f g es v
 
 -- and what the active CPU does
 pub record Thinks (ram : ℕ) (m : Mind) (f g : Face) (acts : List Act) (es : List Entry) (v : Moves) : Type 0 where

@@ -19,8 +19,8 @@ use Rattle.gm_laws.specs.Words.{weigh}
 use Rattle.gm_laws.proofs.EachKind.{face_packets}
 use Rattle.gm_system.specs.Machine.{HasSoundParts, most_of}
 use Rattle.gm_system.specs.Net.{Net, Clear, IsWired}
-use Rattle.gm_system.specs.System.{IsSound, IsRouted, IsWiredAlike, faces}
-use Rattle.gm_system.proofs.Programs.{state_is}
+use Rattle.gm_system.specs.System.{IsSound, IsStored, IsRouted, IsWiredAlike, faces}
+use Rattle.gm_system.proofs.Stores.{stored_view, stored_state}
 use Rattle.gm_system.proofs.Thoughts.{state_with}
 
 -- of two parts
@@ -58,8 +58,8 @@ same_most [] (p ∷ ps) d l h = cc l
 same_most (o ∷ os) [] d l h = cc l
 same_most (o ∷ os) (p ∷ ps) d l h = omega (arith, sum_by-cons most_of o os, sum_by-cons most_of p ps, h 0, same_most os ps d (omega (arith, l)) (λ k. h (suc k)))
 
-module _ (ram : ℕ) (s t : Sys) (h : IsSound ram s []) (a : IsAlike ram s t) (memory : List ℕ) (kept : (faces t h.program.store).memory ≡ Some memory) (size : length memory ≡ ram)
-    (others : (k : ℕ) → (k ≡ h.program.store → ⊥) → (faces t k).memory ≡ None) where
+module _ (ram : ℕ) (s t : Sys) (h : IsSound ram s []) (a : IsAlike ram s t) (memory : List ℕ) (kept : (faces t h.program.kept.store).memory ≡ Some memory) (size : length memory ≡ ram)
+    (others : (k : ℕ) → (k ≡ h.program.kept.store → ⊥) → (faces t k).memory ≡ None) where
   face : (k : ℕ) → faces t k ≡ (let f : Face = faces s k in record f { due = (faces t k).due; memory = (faces t k).memory })
   face k = (a.parts k).face
 
@@ -127,6 +127,16 @@ module _ (ram : ℕ) (s t : Sys) (h : IsSound ram s []) (a : IsAlike ram s t) (m
   all : all_packets t [] ≡ all_packets s []
   all = ap (λ xs. xs ++ []) packets
 
+  -- the same part has RAM's bytes
+  abbrev stored : IsStored ram t
+  stored = record {
+    store = h.program.kept.store;
+    memory = memory;
+    kept = kept;
+    one_store = others;
+    plain = λ k. ap (λ (f : Face). f.caches) (face k) ∙ h.program.kept.plain k;
+  }
+
   -- it is sound too
   pub alike_sound : IsSound ram t []
   alike_sound = record {
@@ -145,11 +155,8 @@ module _ (ram : ℕ) (s t : Sys) (h : IsSound ram s []) (a : IsAlike ram s t) (m
       here = ap (λ (f : Face). f.mind) (face h.program.cpu) ∙ h.program.here;
       alone = λ k n. ap (λ (f : Face). f.mind) (face k) ∙ h.program.alone k n;
       kinds = λ k n c i. ap (λ (f : Face). f.instant) (face k) ∙ h.program.kinds k n (sym (ap (λ (f : Face). f.cpu) (face k)) ∙ c) (sym (ap (λ (f : Face). f.instant) (face h.program.cpu)) ∙ i);
-      store = h.program.store;
-      memory = memory;
-      kept = kept;
-      one_store = others;
-      size = size;
+      kept = stored;
+      size = ap length (stored_view ram t stored) ∙ size;
       owes = ap (weigh core) all ∙ h.program.owes;
       fits = subst (λ rs. weigh (bad rs ram h.program.mind) (all_packets t []) ≡ 0) (sym a.wiring.routes) (ap (weigh (bad s.routes ram h.program.mind)) all ∙ h.program.fits);
       at_once = λ i. ap (weigh core) packets ∙ h.program.at_once (sym (ap (λ (f : Face). f.instant) (face h.program.cpu)) ∙ i);
@@ -162,7 +169,7 @@ module _ (ram : ℕ) (s t : Sys) (h : IsSound ram s []) (a : IsAlike ram s t) (m
   -- to the program nothing changed but memory
   pub alike_state : program_state t [] ≡ state_with s.routes h.program.mind (all_packets s []) memory
   unfolding alike_sound
-  alike_state = state_is ram t [] alike_sound.program ∙ (ap (λ rs. state_with rs h.program.mind (all_packets t []) memory) a.wiring.routes ∙ ap (λ xs. state_with s.routes h.program.mind xs memory) all)
+  alike_state = stored_state ram t [] alike_sound.program ∙ (ap (λ rs. state_with rs h.program.mind (all_packets t []) memory) a.wiring.routes ∙ ap (λ xs. state_with s.routes h.program.mind xs memory) all)
 
   pub alike_packets : (f : Packet → ℕ) → weigh f (all_packets t []) ≡ weigh f (all_packets s [])
   alike_packets f = ap (weigh f) all

@@ -11,7 +11,7 @@ use Rattle.gm_words.specs.Moves.{no_moves, Moves}
 use Rattle.gm_words.specs.Changes.{Change}
 use Rattle.gm_model.specs.Sys.{Sys, object_at, peer_in, pass_at, passed, with_object}
 use Rattle.gm_words.specs.Platform.{End}
-use Rattle.gm_model.specs.View.{all_packets, part_packets, item_packets}
+use Rattle.gm_model.specs.View.{Mind, all_packets, part_packets, item_packets}
 use Rattle.gm_words.specs.declared.act.Act.TheVariants as acts
 use Rattle.gm_words.specs.declared.answer.Answer.TheVariants as answers
 use Rattle.gm_words.specs.declared.entry.Entry.{Entry}
@@ -29,8 +29,10 @@ use Rattle.gm_laws.specs.Words.{weigh, IsIn, offer_out}
 use Rattle.gm_laws.specs.Face.{Face, passed_packets}
 use Rattle.gm_laws.specs.Faces.{face_of, AllItemsOk, AllPassOk}
 use Rattle.gm_system.specs.Net.{Clear, Net}
-use Rattle.gm_laws.specs.Program.{core, bad, seen, MayThink}
-use Rattle.gm_system.specs.System.{IsNet, IsProgram, IsSound, faces, others_packets, Handled}
+use Rattle.gm_laws.specs.Program.{core, bad, MayThink, Mindless}
+use Rattle.gm_system.specs.MemoryLaws.{IsElse, MemoryLaws}
+use Rattle.gm_system.specs.MemoryView.{MemoryView, MemoryStep}
+use Rattle.gm_system.specs.System.{IsNet, IsProgram, IsSoundOver, faces, others_packets, Handled}
 use Rattle.gm_system.specs.Ways.{HasWay, GoesFrom}
 use Rattle.gm_laws.proofs.Counts.{only_zero, offered-append, called-append, IsIn-append}
 use Rattle.gm_system.proofs.Debts.{pays_none}
@@ -38,9 +40,9 @@ use Rattle.gm_system.proofs.Handles.{pop_none}
 use Rattle.gm_system.proofs.Offers.{before_wake}
 use Rattle.gm_system.proofs.Packets.{parts-set, part_le, items-weigh, sent-weigh, others-append, others-sent}
 use Rattle.gm_laws.specs.Laws.{GoesOn, IsDone, WayKeeps, PassesHold}
-use Rattle.gm_system.proofs.Programs.{Shift, IsElse, Step, program_step}
+use Rattle.gm_system.proofs.Programs.{Shift, Step, program_step}
 use Rattle.gm_system.proofs.Systems.{placed-append, instant_there, IsBefore, put, at_same, at_other, net_kept, part_there}
-use Rattle.gm_system.proofs.Wakes.{responses_core, seen_by}
+use Rattle.gm_system.proofs.Wakes.{responses_core}
 use Rattle.gm_laws.proofs.Weights.{weigh-append, no_write_back}
 
 written_back : (c : Cmd) → is_write_back c ≡ true → c ≡ cmds.WriteBack
@@ -79,7 +81,7 @@ ok-done [] i l y h r = (r, tt)
 ok-done (Sent j a ∷ items) i l y h r = (h.0, ok-done items i l y h.1 r)
 ok-done (Done j x m ∷ items) i l y h r = (h.0, ok-done items i l y h.1 r)
 
-module _ (ram : ℕ) (s : Sys) (rest : List Item) (i port : ℕ) (x : Packet) (k total : ℕ) (h : IsSound ram s (Sent i (acts.Atomic (record { 0 = port }) x) ∷ rest)) (here : k < length s.objects)
+module _ (y : MemoryView) (memory : MemoryLaws y) (ram : ℕ) (s : Sys) (rest : List Item) (i port : ℕ) (x : Packet) (k total : ℕ) (h : IsSoundOver y ram s (Sent i (acts.Atomic (record { 0 = port }) x) ∷ rest)) (here : k < length s.objects)
     (d : IsDone s.routes ram (faces s k) x (pass_at s k x)) where
   abbrev r : Stepped
   r = record {
@@ -95,7 +97,7 @@ module _ (ram : ℕ) (s : Sys) (rest : List Item) (i port : ℕ) (x : Packet) (k
   abbrev t : Sys
   t = put s k r
 
-  abbrev p : IsProgram ram s (Sent i (acts.Atomic (record { 0 = port }) x) ∷ rest)
+  abbrev p : IsProgram y ram s (Sent i (acts.Atomic (record { 0 = port }) x) ∷ rest)
   p = h.program
 
   abbrev later : List Item
@@ -148,13 +150,6 @@ module _ (ram : ℕ) (s : Sys) (rest : List Item) (i port : ℕ) (x : Packet) (k
     after = λ f e. omega (arith, all_later f, weigh-append f (part_packets s.objects) (item_packets rest));
   }
 
-  same_core : core (pass_at s k x).packet ≡ core x
-  same_core = omega (
-    arith,
-    responses_core s.routes p.memory (seen (face_of (pass_at s k x).state).memory p.memory) (record { request = x; response = (pass_at s k x).packet } ∷ []) (pass_at s k x).entries
-        (d.serves p.memory p.size (seen_by ram s (Sent i (acts.Atomic (record { 0 = port }) x) ∷ rest) p k)),
-  )
-
   same_else : IsElse s t k (face_of (pass_at s k x).state)
   same_else = record {
     routes = refl;
@@ -164,6 +159,7 @@ module _ (ram : ℕ) (s : Sys) (rest : List Item) (i port : ℕ) (x : Packet) (k
     memories = λ j n. ap (λ o. (face_of o).memory) (other j n);
     cpus = λ j. by_cpu j (cases_eq j k);
     instants = λ j. by_instant j (cases_eq j k);
+    caches = λ j. by_caches j (cases_eq j k);
   } where
     same : object_at t k ≡ (pass_at s k x).state
     same = at_same ram s rest k (wakes.AtomicDone x 0) r Clear Clear before here (record { ok = d.ok; law = d.law; due = d.due; acts = d.acts; hops = no_pass (faces s k) (pass_at s k x).acts d.passed; instant = d.instant })
@@ -181,6 +177,10 @@ module _ (ram : ℕ) (s : Sys) (rest : List Item) (i port : ℕ) (x : Packet) (k
     by_instant j (inl e) = subst (λ q. (faces t q).instant ≡ (faces s q).instant) (sym e) (ap (λ o. (face_of o).instant) same ∙ d.instant)
     by_instant j (inr n) = ap (λ o. (face_of o).instant) (other j n)
 
+    by_caches : (j : ℕ) → (j ≡ k) ⊎ (j ≡ k → ⊥) → (faces t j).caches ≡ (faces s j).caches
+    by_caches j (inl e) = subst (λ q. (faces t q).caches ≡ (faces s q).caches) (sym e) (ap (λ o. (face_of o).caches) same ∙ d.caches)
+    by_caches j (inr n) = ap (λ o. (face_of o).caches) (other j n)
+
   may : MayThink s.routes ram p.mind (faces s k) (wakes.Refused (record { 0 = 0 }))
   may = record {
     held = omega (arith, p.fits, all_now (bad s.routes ram p.mind), part_le (bad s.routes ram p.mind) s.objects k (Blank kinds.AtomicCpu) here);
@@ -193,6 +193,29 @@ module _ (ram : ℕ) (s : Sys) (rest : List Item) (i port : ℕ) (x : Packet) (k
     lines = λ b l o. cc;
   }
 
+  mindless : Mindless s.routes ram (faces s k) (face_of (pass_at s k x).state) (pass_at s k x).acts (pass_at s k x).entries r.moves
+  mindless = record {
+    mind = d.mindless.1;
+    made = refl;
+    fits = λ n. refl;
+    answered = refl;
+    passed = ap (weigh core) d.passed;
+    recalls = d.recalls;
+  }
+
+  -- a packet of the hart's is passed at once only where the active CPU's are
+  instant : (c : ℕ) (m : Mind) → (faces s c).mind ≡ Some m → (faces s c).instant ≡ false → core x ≡ 0
+  instant c m e u = by (cases_eq c p.cpu) where
+    by : (c ≡ p.cpu) ⊎ (c ≡ p.cpu → ⊥) → core x ≡ 0
+    by (inl o) = omega (arith, p.in_time (ap (λ j. (faces s j).instant) (sym o) ∙ u))
+    by (inr n) = absurd (let z : Some m ≡ None = sym e ∙ p.alone c n in cc)
+
+  recalled : MemoryStep y s.routes ram s t (record { request = x; response = (pass_at s k x).packet } ∷ []) (pass_at s k x).entries
+  recalled = memory.passes ram s k x (record { kept = p.kept; size = p.size; parts = h.net.parts; instant = instant; same = same_else }) mindless
+
+  same_core : core (pass_at s k x).packet ≡ core x
+  same_core = omega (arith, responses_core s.routes (y.view s) (y.view t) (record { request = x; response = (pass_at s k x).packet } ∷ []) (pass_at s k x).entries recalled.serves)
+
   senders : weigh core (others_packets p.cpu later) ≡ 0
   senders = by (i == p.cpu) p.senders (others-append core p.cpu (rest ++ sent_by k (pass_at s k x).acts) (Done i (pass_at s k x).packet total ∷ [])) where
     by : (b : Bool) → weigh core ((if b then [] else x ∷ []) ++ others_packets p.cpu rest) ≡ 0
@@ -201,25 +224,15 @@ module _ (ram : ℕ) (s : Sys) (rest : List Item) (i port : ℕ) (x : Packet) (k
     by true a e = omega (arith, a, e, others-append core p.cpu rest (sent_by k (pass_at s k x).acts), others-sent core p.cpu k (pass_at s k x).acts, ap (weigh core) d.passed)
     by false a e = omega (arith, a, e, same_core, others-append core p.cpu rest (sent_by k (pass_at s k x).acts), others-sent core p.cpu k (pass_at s k x).acts, ap (weigh core) d.passed)
 
-  step : Step ram s t (Sent i (acts.Atomic (record { 0 = port }) x) ∷ rest) later (pass_at s k x).entries
+  step : Step y ram s t (Sent i (acts.Atomic (record { 0 = port }) x) ∷ rest) later (pass_at s k x).entries
   step =
-      program_step ram s t (Sent i (acts.Atomic (record { 0 = port }) x) ∷ rest) later k (wakes.Refused (record { 0 = 0 })) (face_of (pass_at s k x).state) (pass_at s k x).acts (pass_at s k x).entries r.moves p same_else shift may
-      (λ e. record {
-        mind = d.mindless.1;
-        made = refl;
-        fits = λ n. refl;
-        answered = refl;
-        passed = ap (weigh core) d.passed;
-        serves = d.serves;
-        stays = d.stays;
-        remains = d.remains;
-      })
-      (λ e. absurd (no_mind (sym d.mindless.0 ∙ e)))
+      program_step y ram s t (Sent i (acts.Atomic (record { 0 = port }) x) ∷ rest) later k (wakes.Refused (record { 0 = 0 })) (face_of (pass_at s k x).state) (pass_at s k x).acts (pass_at s k x).entries r.moves p same_else shift may
+      (λ e. mindless) (λ e. absurd (no_mind (sym d.mindless.0 ∙ e))) (λ e. recalled) (λ e. absurd (no_mind (sym d.mindless.0 ∙ e)))
       (λ u. omega (arith, parts_later core, p.at_once u)) (λ u. omega (arith, items_later core, p.in_time u, same_core)) senders where
         no_mind : None ≡ Some p.mind → ⊥
         no_mind e = cc
 
-  pub pass_done : (es : List Entry) → Handled ram (record { sys = s; items = Sent i (acts.Atomic (record { 0 = port }) x) ∷ rest; entries = es }) (done_at (deliver_passed (record { sys = s; items = rest; entries = es }) k x) i (pass_at s k x).packet total) (record no_moves { served = record { request = x; response = (pass_at s k x).packet } ∷ [] })
+  pub pass_done : (es : List Entry) → Handled y ram (record { sys = s; items = Sent i (acts.Atomic (record { 0 = port }) x) ∷ rest; entries = es }) (done_at (deliver_passed (record { sys = s; items = rest; entries = es }) k x) i (pass_at s k x).packet total) (record no_moves { served = record { request = x; response = (pass_at s k x).packet } ∷ [] })
   pass_done es = record {
     sound = record { net = net; program = step.program };
     wiring = record { wires = refl; ways = refl; routes = refl };
@@ -258,7 +271,7 @@ pub record IsServedBy (rs : List Route) (ram : ℕ) (s : Sys) (rest : List Item)
   pub ends : e ≡ done_at (deliver_passed (record { sys = s; items = rest; entries = es }) place x) i (pass_at s place x).packet took
   pub moves : m ≡ record no_moves { served = record { request = x; response = (pass_at s place x).packet } ∷ [] }
 
-module _ (passes : PassesHold) (ram : ℕ) (s : Sys) (rest : List Item) (i port : ℕ) (x : Packet) (h : IsSound ram s (Sent i (acts.Atomic (record { 0 = port }) x) ∷ rest)) where
+module _ (passes : PassesHold) (y : MemoryView) (memory : MemoryLaws y) (ram : ℕ) (s : Sys) (rest : List Item) (i port : ℕ) (x : Packet) (h : IsSoundOver y ram s (Sent i (acts.Atomic (record { 0 = port }) x) ∷ rest)) where
   -- a packet that the hart waits for is no write-back
   plain : is_write_back x.cmd ≡ false
   plain = by (is_write_back x.cmd) refl where
@@ -343,10 +356,10 @@ module _ (passes : PassesHold) (ram : ℕ) (s : Sys) (rest : List Item) (i port 
 
     -- a packet that is passed at once
     pub atomic_handled : (let d : Delivery = record { sys = s; items = rest; entries = es } in let k = (peer_in s.ways i port).part in
-        Handled ram (record { sys = s; items = Sent i (acts.Atomic (record { 0 = port }) x) ∷ rest; entries = es }) (deliver_atomic passes_max d i k x 0) (atomic_moves passes_max s k x))
+        Handled y ram (record { sys = s; items = Sent i (acts.Atomic (record { 0 = port }) x) ∷ rest; entries = es }) (deliver_atomic passes_max d i k x 0) (atomic_moves passes_max s k x))
     atomic_handled =
         let v = atomic_served in
-        subst (λ (e : Delivery). Handled ram (record { sys = s; items = Sent i (acts.Atomic (record { 0 = port }) x) ∷ rest; entries = es }) e (atomic_moves passes_max s (peer_in s.ways i port).part x)) (sym v.ends)
-        (subst (λ (m : Moves). Handled ram (record { sys = s; items = Sent i (acts.Atomic (record { 0 = port }) x) ∷ rest; entries = es })
+        subst (λ (e : Delivery). Handled y ram (record { sys = s; items = Sent i (acts.Atomic (record { 0 = port }) x) ∷ rest; entries = es }) e (atomic_moves passes_max s (peer_in s.ways i port).part x)) (sym v.ends)
+        (subst (λ (m : Moves). Handled y ram (record { sys = s; items = Sent i (acts.Atomic (record { 0 = port }) x) ∷ rest; entries = es })
         (done_at (deliver_passed (record { sys = s; items = rest; entries = es }) v.place x) i (pass_at s v.place x).packet v.took) m) (sym v.moves)
-        (pass_done ram s rest i port x v.place v.took h v.there v.done es))
+        (pass_done y memory ram s rest i port x v.place v.took h v.there v.done es))

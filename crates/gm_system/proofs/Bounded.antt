@@ -36,9 +36,10 @@ use Rattle.gm_laws.proofs.Counts.{only_self}
 use Rattle.gm_laws.proofs.EachKind.{passes_hold}
 use Rattle.gm_laws.proofs.Modest.{rules_are_modest}
 use Rattle.gm_system.specs.Machine.{HasSoundParts, AreItemsFit, items_speech, speech_left, most_of, AreBetween}
-use Rattle.gm_system.specs.System.{IsSound, faces}
+use Rattle.gm_system.specs.System.{IsSound, faces, ram_memory}
 use Rattle.gm_system.proofs.Atomics.{atomic_served}
 use Rattle.gm_system.proofs.Items.{active_below}
+use Rattle.gm_system.proofs.Stores.{ram_laws}
 use Rattle.gm_system.proofs.Systems.{part_there}
 
 -- the queue after changes
@@ -333,7 +334,7 @@ module _ (ram : ℕ) (table : List Slot) where
   handle_bounded s rest es (Sent i (acts.Atomic p x)) sound h fit =
       let d : Delivery = record { sys = s; items = rest; entries = es } in
       let k : ℕ = (peer_in s.ways i p.0).part in
-      let v = atomic_served passes_hold ram s rest i p.0 x sound es in
+      let v = atomic_served passes_hold ram_memory ram_laws ram s rest i p.0 x sound es in
       let served : Moves = record no_moves { served = record { request = x; response = (pass_at s v.place x).packet } ∷ [] } in
       let b = pass_bounded s rest es table i x h fit.1 fit.0 v.place v.took v.there (v.short (λ j. (rules_are_modest.pass (object_at s j) x s.tick (h.within j)).soon)) in
       subst (λ (e : Delivery). IsBounded (record { sys = s; items = Sent i (acts.Atomic p x) ∷ rest; entries = es }) e table 4 2 0 (atomic_moves passes_max s k x)) (sym v.ends)

@@ -30,7 +30,7 @@ use Rattle.gm_system.specs.System.{IsSound, faces}
 use Rattle.gm_system.proofs.Alike.{IsPartAlike, IsAlike, alike_sound, alike_parts, alike_state, alike_packets}
 use Rattle.gm_system.proofs.Bounded.{changed_once, changed_order, changed_between}
 use Rattle.gm_system.proofs.Pending.{other_queue}
-use Rattle.gm_system.proofs.Programs.{state_is}
+use Rattle.gm_system.proofs.Stores.{same_stored, stored_size, stored_state}
 
 -- each part's changes are to its own events
 
@@ -132,19 +132,19 @@ module _ (s : Sys) (table : List Slot) (h : IsSteady s table) where
     memory_same k = ap (λ o. (face_of o).memory) (at_all k) ∙ ap (λ (g : Face). g.memory) (keeps (object_at s k)).same.face
 
     commanded_sound : IsSound h.ram (commanded f s) []
-    commanded_sound = alike_sound h.ram s (commanded f s) h.sound commanded_alike h.sound.program.memory (memory_same h.sound.program.store ∙ h.sound.program.kept) h.sound.program.size (λ k n. memory_same k ∙ h.sound.program.one_store k n)
+    commanded_sound = alike_sound h.ram s (commanded f s) h.sound commanded_alike h.sound.program.kept.memory (memory_same h.sound.program.kept.store ∙ h.sound.program.kept.kept) (stored_size h.ram s [] h.sound.program) (λ k n. memory_same k ∙ h.sound.program.kept.one_store k n)
 
     pub commanded_steady : IsSteady (commanded f s) table
     commanded_steady = record { ram = h.ram; sound = commanded_sound; parts = alike_parts h.ram s (commanded f s) table commanded_alike h.parts; numbers = h.numbers; counts = h.counts }
 
     pub commanded_state : program_state (commanded f s) [] ≡ program_state s []
     commanded_state =
-        alike_state h.ram s (commanded f s) h.sound commanded_alike h.sound.program.memory (memory_same h.sound.program.store ∙ h.sound.program.kept) h.sound.program.size (λ k n. memory_same k ∙ h.sound.program.one_store k n)
-        ∙ sym (state_is h.ram s [] h.sound.program)
+        alike_state h.ram s (commanded f s) h.sound commanded_alike h.sound.program.kept.memory (memory_same h.sound.program.kept.store ∙ h.sound.program.kept.kept) (stored_size h.ram s [] h.sound.program) (λ k n. memory_same k ∙ h.sound.program.kept.one_store k n)
+        ∙ sym (stored_state h.ram s [] h.sound.program)
 
     pub commanded_packets : (g : Packet → ℕ) → weigh g (all_packets (commanded f s) []) ≡ weigh g (all_packets s [])
     commanded_packets g =
-        alike_packets h.ram s (commanded f s) h.sound commanded_alike h.sound.program.memory (memory_same h.sound.program.store ∙ h.sound.program.kept) h.sound.program.size (λ k n. memory_same k ∙ h.sound.program.one_store k n) g
+        alike_packets h.ram s (commanded f s) h.sound commanded_alike h.sound.program.kept.memory (memory_same h.sound.program.kept.store ∙ h.sound.program.kept.kept) (stored_size h.ram s [] h.sound.program) (λ k n. memory_same k ∙ h.sound.program.kept.one_store k n) g
 
 -- whether it is draining doesn't matter to the rest
 set_draining : (s : Sys) (table : List Slot) (b : Bool) → IsSteady s table → IsSteady (record s { draining = b }) table
@@ -158,10 +158,7 @@ set_draining s table b h = record {
       here = p.here;
       alone = p.alone;
       kinds = p.kinds;
-      store = p.store;
-      memory = p.memory;
-      kept = p.kept;
-      one_store = p.one_store;
+      kept = same_stored h.ram s (record s { draining = b }) refl p.kept;
       size = p.size;
       owes = p.owes;
       fits = p.fits;
@@ -222,7 +219,7 @@ module _ (s : Sys) (table : List Slot) (b : ℕ) (h : IsSteady s table) where
   pub input_steady : IsSteady (record s { objects = map (with_input b) s.objects }) table
   input_steady = record {
     ram = h.ram;
-    sound = alike_sound h.ram s (record s { objects = map (with_input b) s.objects }) h.sound input_alike h.sound.program.memory (input_memory h.sound.program.store ∙ h.sound.program.kept) h.sound.program.size (λ k n. input_memory k ∙ h.sound.program.one_store k n);
+    sound = alike_sound h.ram s (record s { objects = map (with_input b) s.objects }) h.sound input_alike h.sound.program.kept.memory (input_memory h.sound.program.kept.store ∙ h.sound.program.kept.kept) (stored_size h.ram s [] h.sound.program) (λ k n. input_memory k ∙ h.sound.program.kept.one_store k n);
     parts = alike_parts h.ram s (record s { objects = map (with_input b) s.objects }) table input_alike h.parts;
     numbers = h.numbers;
     counts = h.counts;
@@ -230,12 +227,12 @@ module _ (s : Sys) (table : List Slot) (b : ℕ) (h : IsSteady s table) where
 
   pub input_state : program_state (record s { objects = map (with_input b) s.objects }) [] ≡ program_state s []
   input_state =
-      alike_state h.ram s (record s { objects = map (with_input b) s.objects }) h.sound input_alike h.sound.program.memory (input_memory h.sound.program.store ∙ h.sound.program.kept) h.sound.program.size (λ k n. input_memory k ∙ h.sound.program.one_store k n)
-      ∙ sym (state_is h.ram s [] h.sound.program)
+      alike_state h.ram s (record s { objects = map (with_input b) s.objects }) h.sound input_alike h.sound.program.kept.memory (input_memory h.sound.program.kept.store ∙ h.sound.program.kept.kept) (stored_size h.ram s [] h.sound.program) (λ k n. input_memory k ∙ h.sound.program.kept.one_store k n)
+      ∙ sym (stored_state h.ram s [] h.sound.program)
 
   pub input_packets : (g : Packet → ℕ) → weigh g (all_packets (record s { objects = map (with_input b) s.objects }) []) ≡ weigh g (all_packets s [])
   input_packets g =
-      alike_packets h.ram s (record s { objects = map (with_input b) s.objects }) h.sound input_alike h.sound.program.memory (input_memory h.sound.program.store ∙ h.sound.program.kept) h.sound.program.size (λ k n. input_memory k ∙ h.sound.program.one_store k n) g
+      alike_packets h.ram s (record s { objects = map (with_input b) s.objects }) h.sound input_alike h.sound.program.kept.memory (input_memory h.sound.program.kept.store ∙ h.sound.program.kept.kept) (stored_size h.ram s [] h.sound.program) (λ k n. input_memory k ∙ h.sound.program.kept.one_store k n) g
 
 -- events are traced, or not
 module _ (s : Sys) (table : List Slot) (on : Bool) (h : IsSteady s table) where
@@ -255,7 +252,7 @@ module _ (s : Sys) (table : List Slot) (on : Bool) (h : IsSteady s table) where
   pub trace_steady : IsSteady (record s { trace = on }) table
   trace_steady = record {
     ram = h.ram;
-    sound = alike_sound h.ram s (record s { trace = on }) h.sound trace_alike h.sound.program.memory h.sound.program.kept h.sound.program.size h.sound.program.one_store;
+    sound = alike_sound h.ram s (record s { trace = on }) h.sound trace_alike h.sound.program.kept.memory h.sound.program.kept.kept (stored_size h.ram s [] h.sound.program) h.sound.program.kept.one_store;
     parts = alike_parts h.ram s (record s { trace = on }) table trace_alike h.parts;
     numbers = h.numbers;
     counts = h.counts;
@@ -272,8 +269,8 @@ ram_there [] i m h n = absurd (let z : None ≡ Some m = sym (commands_hold.kept
 ram_there (o ∷ os) zero m h n = ap (λ q. elim q as (λ _. List ℕ) [ None ↦ own_ram os | Some t ↦ t ]) (sym (commands_hold.kept o) ∙ h)
 ram_there (o ∷ os) (suc i) m h n = ap (λ q. elim q as (λ _. List ℕ) [ None ↦ own_ram os | Some t ↦ t ]) (sym (commands_hold.kept o) ∙ n 0 (λ e. cc e)) ∙ ram_there os i m h (λ k b. n (suc k) (λ e. b (omega (arith, e))))
 
-pub own_is : (ram : ℕ) (s : Sys) (h : IsSound ram s []) → own_ram s.objects ≡ h.program.memory
-own_is ram s h = ram_there s.objects h.program.store h.program.memory h.program.kept h.program.one_store
+pub own_is : (ram : ℕ) (s : Sys) (h : IsSound ram s []) → own_ram s.objects ≡ h.program.kept.memory
+own_is ram s h = ram_there s.objects h.program.kept.store h.program.kept.memory h.program.kept.kept h.program.kept.one_store
 
 module _ (s : Sys) (table : List Slot) (address : ℕ) (bytes : List ℕ) (h : IsSteady s table) (within : address - 0x80000000 + length bytes ≤ length (own_ram s.objects)) where
   abbrev at : ℕ
@@ -306,17 +303,17 @@ module _ (s : Sys) (table : List Slot) (address : ℕ) (bytes : List ℕ) (h : I
     alike : (f : Face) (n : Option (List ℕ)) (g : Face) → g ≡ (let q : Face = record f { memory = n } in q) → g ≡ (let q : Face = record f { due = g.due; memory = g.memory } in q)
     alike f n g e = subst (λ (x : Face). x ≡ (let q : Face = record f { due = x.due; memory = x.memory } in q)) (sym e) refl
 
-  memory_put : (faces (with_raw address bytes s) h.sound.program.store).memory ≡ Some (with_bytes_at h.sound.program.memory (address - 0x80000000) bytes)
-  memory_put = ap (λ (f : Face). f.memory) (put_face h.sound.program.store) ∙ ap (λ o. option_map (λ m. with_bytes_at m (address - 0x80000000) bytes) o) h.sound.program.kept
+  memory_put : (faces (with_raw address bytes s) h.sound.program.kept.store).memory ≡ Some (with_bytes_at h.sound.program.kept.memory (address - 0x80000000) bytes)
+  memory_put = ap (λ (f : Face). f.memory) (put_face h.sound.program.kept.store) ∙ ap (λ o. option_map (λ m. with_bytes_at m (address - 0x80000000) bytes) o) h.sound.program.kept.kept
 
-  others_put : (k : ℕ) → (k ≡ h.sound.program.store → ⊥) → (faces (with_raw address bytes s) k).memory ≡ None
-  others_put k n = ap (λ (f : Face). f.memory) (put_face k) ∙ ap (λ o. option_map (λ m. with_bytes_at m (address - 0x80000000) bytes) o) (h.sound.program.one_store k n)
+  others_put : (k : ℕ) → (k ≡ h.sound.program.kept.store → ⊥) → (faces (with_raw address bytes s) k).memory ≡ None
+  others_put k n = ap (λ (f : Face). f.memory) (put_face k) ∙ ap (λ o. option_map (λ m. with_bytes_at m (address - 0x80000000) bytes) o) (h.sound.program.kept.one_store k n)
 
   pub put_steady : IsSteady (with_raw address bytes s) table
   put_steady = record {
     ram = h.ram;
-    sound = alike_sound h.ram s (with_raw address bytes s) h.sound raw_alike (with_bytes_at h.sound.program.memory (address - 0x80000000) bytes) memory_put
-        (put_size h.sound.program.memory (address - 0x80000000) bytes (omega (arith, within, ap length (own_is h.ram s h.sound))) ∙ h.sound.program.size) others_put;
+    sound = alike_sound h.ram s (with_raw address bytes s) h.sound raw_alike (with_bytes_at h.sound.program.kept.memory (address - 0x80000000) bytes) memory_put
+        (put_size h.sound.program.kept.memory (address - 0x80000000) bytes (omega (arith, within, ap length (own_is h.ram s h.sound))) ∙ (stored_size h.ram s [] h.sound.program)) others_put;
     parts = alike_parts h.ram s (with_raw address bytes s) table raw_alike h.parts;
     numbers = h.numbers;
     counts = h.counts;

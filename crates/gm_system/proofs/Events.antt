@@ -1,6 +1,6 @@
 -- Whichever pending event is served: the invariant is kept, what is noted is replayed, and no packet is lost.
 use Rattle.std.specs.Prelude.{IsFalse, slice_get}
-use Rattle.std.proofs.Common.{◌≡◌, ℕ, zero, suc, ◌==◌, ◌&&◌, ◌||◌, if◌then◌else◌, Bool, true, false, List, [], ◌∷◌, refl, sym, ◌∙◌, ap, subst, Some, ne_eqb, eq-eqb}
+use Rattle.std.proofs.Common.{◌≡◌, ℕ, zero, suc, ◌==◌, ◌&&◌, ◌||◌, if◌then◌else◌, Bool, true, false, List, [], ◌∷◌, refl, sym, ◌∙◌, ap, subst, Some, ne_eqb, eq-eqb, length}
 use Rattle.std.proofs.lemmas.Bool.{and_parts}
 use Rattle.ev_queue.specs.declared.due.Due.{Due}
 use Rattle.ev_queue.specs.PendingList.{is_of, is_pending, HoldsSlotsOnce}
@@ -9,7 +9,9 @@ use Rattle.gm_model.specs.Fire.{without_nth, taken_out, event_begun, event_deliv
 use Rattle.gm_model.specs.Sys.{Sys, step_at}
 use Rattle.gm_model.specs.EventMoves.{event_moves, deliver_moves}
 use Rattle.gm_words.specs.declared.wake.Wake.TheVariants as wakes
-use Rattle.gm_system.specs.System.{IsSound, faces, Handled}
+use Rattle.gm_system.specs.MemoryLaws.{MemoryLaws}
+use Rattle.gm_system.specs.MemoryView.{MemoryView}
+use Rattle.gm_system.specs.System.{IsSoundOver, faces, Handled}
 use Rattle.gm_laws.proofs.Bytes.{same_is, same_number}
 use Rattle.gm_system.proofs.Deliveries.{handled_then, deliver_keeps}
 use Rattle.gm_laws.proofs.EachKind.{wakes_hold}
@@ -55,7 +57,7 @@ nth_gone (x ∷ xs) (suc n) e once h = by (is_of x e.owner.0 e.slot.0) refl (nth
       let here : is_pending xs x.owner.0 x.slot.0 ≡ true = subst (λ a. is_pending xs a x.slot.0 ≡ true) (sym o) (subst (λ c. is_pending xs e.owner.0 c ≡ true) (sym s) (nth_is xs n e h)) in
       absurd (let z : true ≡ false = sym here ∙ false_is (is_pending xs x.owner.0 x.slot.0) once.0 in cc)
 
-module _ (ram : ℕ) (s : Sys) (n t : ℕ) (e : Due) (h : IsSound ram s []) (once : HoldsSlotsOnce s.pending) (there : slice_get s.pending n ≡ Some e) where
+module _ (y : MemoryView) (memory : MemoryLaws y) (ram : ℕ) (s : Sys) (n t : ℕ) (e : Due) (h : IsSoundOver y ram s []) (once : HoldsSlotsOnce s.pending) (there : slice_get s.pending n ≡ Some e) where
   pub fired : (faces s e.owner.0).due e.slot.0 ≡ true
   fired = h.net.due e.owner.0 e.slot.0 ∙ nth_is s.pending n e there
 
@@ -76,21 +78,18 @@ module _ (ram : ℕ) (s : Sys) (n t : ℕ) (e : Due) (h : IsSound ram s []) (onc
   others k m a = h.net.due k m ∙ sym (nth_other s.pending n e k m there (ap (λ b. b && (e.slot.0 == m)) (ne_eqb e.owner.0 k (λ c. a (sym c)))))
 
   -- the n-th pending event is served at a tick
-  pub event_keeps : (let d : Delivery = record { sys = taken_out s n t; items = []; entries = [] } in Handled ram d (event_delivered (taken_out s n t) e) (event_moves (taken_out s n t) e))
-  event_keeps = handled_then ram (record { sys = taken_out s n t; items = []; entries = [] }) (event_begun (taken_out s n t) e) (event_delivered (taken_out s n t) e)
-      (step_at (taken_out s n t) e.owner.0 (wakes.Event e.slot)).moves (deliver_moves items_max (event_begun (taken_out s n t) e)) begun (deliver_keeps ram items_max (event_begun (taken_out s n t) e) begun.sound) where
-        begun : (let d : Delivery = record { sys = taken_out s n t; items = []; entries = [] } in Handled ram d (event_begun (taken_out s n t) e) (step_at (taken_out s n t) e.owner.0 (wakes.Event e.slot)).moves)
-        begun = event_handled wakes_hold ram (taken_out s n t) [] e.owner.0 e.slot (record {
+  pub event_keeps : (let d : Delivery = record { sys = taken_out s n t; items = []; entries = [] } in Handled y ram d (event_delivered (taken_out s n t) e) (event_moves (taken_out s n t) e))
+  event_keeps = handled_then y memory ram (record { sys = taken_out s n t; items = []; entries = [] }) (event_begun (taken_out s n t) e) (event_delivered (taken_out s n t) e)
+      (step_at (taken_out s n t) e.owner.0 (wakes.Event e.slot)).moves (deliver_moves items_max (event_begun (taken_out s n t) e)) begun (deliver_keeps y memory ram items_max (event_begun (taken_out s n t) e) begun.sound) where
+        begun : (let d : Delivery = record { sys = taken_out s n t; items = []; entries = [] } in Handled y ram d (event_begun (taken_out s n t) e) (step_at (taken_out s n t) e.owner.0 (wakes.Event e.slot)).moves)
+        begun = event_handled wakes_hold y memory ram (taken_out s n t) [] e.owner.0 e.slot (record {
           cpu = h.program.cpu;
           mind = h.program.mind;
           here = h.program.here;
           alone = h.program.alone;
           kinds = h.program.kinds;
-          store = h.program.store;
-          memory = h.program.memory;
-          kept = h.program.kept;
-          one_store = h.program.one_store;
-          size = h.program.size;
+          kept = (memory.timed ram s n t h.program.kept).kept;
+          size = ap length (memory.timed ram s n t h.program.kept).same ∙ h.program.size;
           owes = h.program.owes;
           fits = h.program.fits;
           at_once = h.program.at_once;

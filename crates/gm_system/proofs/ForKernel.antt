@@ -33,7 +33,7 @@ use Rattle.gm_laws.proofs.Modest.{rules_are_modest}
 use Rattle.gm_laws.specs.Laws.{GoesOn}
 use Rattle.gm_system.specs.Machine.{HasSoundParts, AreItemsFit, IsSteady, IsMachineSound, IsDeliverySound, most_of}
 use Rattle.gm_system.specs.Runs.{Replays, IsRunReplayed}
-use Rattle.gm_system.specs.System.{IsSound, IsWiredAlike, faces}
+use Rattle.gm_system.specs.System.{IsSound, IsWiredAlike, faces, ram_memory}
 use Rattle.gm_system.specs.Ways.{HasWay, GoesFrom}
 use Rattle.gm_system.proofs.Atomics.{stays_same, way_there}
 use Rattle.gm_laws.proofs.PortsHad.{port_had}
@@ -48,6 +48,7 @@ use Rattle.gm_system.proofs.Machines.{begun_sound, first_sound, all_delivered, p
 use Rattle.gm_system.proofs.Deliveries.{alike}
 use Rattle.gm_system.proofs.Runs.{deliver_tick, fire_tick, timed_of, nothing_replays, replays_then}
 use Rattle.gm_system.proofs.Started.{start_sound, restart_sound}
+use Rattle.gm_system.proofs.Stores.{ram_laws}
 
 -- Parts.
 
@@ -91,7 +92,7 @@ module _ (d : Delivery) (table : List Slot) (i p : ℕ) (x : Packet) (rest : Lis
   pass_fits = (first_fits d table h (Sent i (acts.Atomic (record { 0 = p }) x)) rest e).0
 
   pub has_way : HasWay passes_max d.sys (peer_in d.sys.ways i p).part x
-  has_way = way_there passes_hold h.ram d.sys rest i p x (first_stands d table h (Sent i (acts.Atomic (record { 0 = p }) x)) rest e)
+  has_way = way_there passes_hold ram_memory ram_laws h.ram d.sys rest i p x (first_stands d table h (Sent i (acts.Atomic (record { 0 = p }) x)) rest e)
 
 -- on the way: the part is there, and may be passed one part more
 pub way_part : (n k : ℕ) (s : Sys) (x : Packet) → HasWay n s k x → k < length s.objects
@@ -210,7 +211,7 @@ all_done d table h = all_delivered d table h
 
 -- the owner of a pending event is there
 pub owner_there : (s : Sys) (table : List Slot) (n t : ℕ) (e : Due) → IsSteady s table → slice_get s.pending n ≡ Some e → e.owner.0 < length s.objects
-owner_there s table n t e h g = here h.ram s n t e h.sound h.parts.once g 120 h.parts.room
+owner_there s table n t e h g = here ram_memory ram_laws h.ram s n t e h.sound h.parts.once g 120 h.parts.room
 
 pub begun : (s : Sys) (table : List Slot) (n t : ℕ) (e : Due) → IsSteady s table → slice_get s.pending n ≡ Some e → IsDeliverySound (event_begun (taken_out s n t) e) table
 begun s table n t e h g = begun_sound s table n t e h g
@@ -286,14 +287,14 @@ put_size m at bytes l = sized m at bytes l
 
 -- each part that keeps bytes keeps as many as RAM has
 pub bytes_size : (s : Sys) (table : List Slot) (k : ℕ) → IsSteady s table → IfSome (own_bytes (object_at s k)) (λ m. length m ≡ length (own_ram s.objects))
-bytes_size s table k h = by (own_bytes (object_at s k)) refl (cases_eq k h.sound.program.store) where
-  by : (o : Option (List ℕ)) → own_bytes (object_at s k) ≡ o → (k ≡ h.sound.program.store) ⊎ (k ≡ h.sound.program.store → ⊥) → IfSome o (λ m. length m ≡ length (own_ram s.objects))
+bytes_size s table k h = by (own_bytes (object_at s k)) refl (cases_eq k h.sound.program.kept.store) where
+  by : (o : Option (List ℕ)) → own_bytes (object_at s k) ≡ o → (k ≡ h.sound.program.kept.store) ⊎ (k ≡ h.sound.program.kept.store → ⊥) → IfSome o (λ m. length m ≡ length (own_ram s.objects))
   by None e c = tt
   by (Some m) e (inl c) =
-      let same : Some m ≡ Some h.sound.program.memory = sym e ∙ (sym (commands_hold.kept (object_at s k)) ∙ (ap (λ j. (faces s j).memory) c ∙ h.sound.program.kept)) in
-      let is : m ≡ h.sound.program.memory = cc same in
+      let same : Some m ≡ Some h.sound.program.kept.memory = sym e ∙ (sym (commands_hold.kept (object_at s k)) ∙ (ap (λ j. (faces s j).memory) c ∙ h.sound.program.kept.kept)) in
+      let is : m ≡ h.sound.program.kept.memory = cc same in
       omega (arith, ap length is, ap length (own_is h.ram s h.sound))
-  by (Some m) e (inr c) = absurd (let z : None ≡ Some m = sym (h.sound.program.one_store k c) ∙ (commands_hold.kept (object_at s k) ∙ e) in cc)
+  by (Some m) e (inr c) = absurd (let z : None ≡ Some m = sym (h.sound.program.kept.one_store k c) ∙ (commands_hold.kept (object_at s k) ∙ e) in cc)
 
 -- the hart that a part shows is the one that it has
 pub shown_hart : (o : ObjState) → option_map (λ (m : Mind). m.arch) (mind_of o) ≡ arch_of o

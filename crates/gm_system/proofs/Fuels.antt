@@ -21,7 +21,9 @@ use Rattle.gm_laws.specs.Face.{Face, FaceOk, Law, MayWake}
 use Rattle.gm_laws.specs.Faces.{face_of}
 use Rattle.gm_laws.specs.Fuel.{weight, weight_of, spend, starts, took, is_taken, busy, busy_below}
 use Rattle.gm_system.specs.Net.{Debt, Clear, Calling, Pays}
-use Rattle.gm_system.specs.System.{IsNet, IsSound, faces, fuel_of}
+use Rattle.gm_system.specs.MemoryLaws.{MemoryLaws}
+use Rattle.gm_system.specs.MemoryView.{MemoryView}
+use Rattle.gm_system.specs.System.{IsNet, IsSoundOver, faces, fuel_of}
 use Rattle.gm_laws.proofs.Counts.{only_self, only_same, only_zero}
 use Rattle.gm_system.proofs.Debts.{pays_retry, pays_none}
 use Rattle.gm_laws.proofs.EachKind.{wakes_hold}
@@ -90,14 +92,14 @@ pub put_falls : (s : Sys) (rest : List Item) (i : ℕ) (w : Wake) (r : Stepped) 
 put_falls s rest i w r most here ok law few light calm may =
     omega (arith, busy_falls (faces s i) (face_of r.state) w r.answer r.acts most ok law few light calm may, sum_by-set (λ (o : ObjState). busy (face_of o)) s.objects i r.state (Blank kinds.AtomicCpu) here, weight-append rest (sent_by i r.acts), weight-sent i r.acts)
 
-module _ (ram : ℕ) where
+module _ (y : MemoryView) (memory : MemoryLaws y) (ram : ℕ) where
   wake_falls : (s : Sys) (rest : List Item) (i : ℕ) (w : Wake) (d e : Debt) (b : IsBefore ram s rest d i w) (here : i < length s.objects) (p : Pays (peer_in s.wires) (faces s) i w (step_at s i w).answer d e)
       → starts w ≡ 0 → fuel_of (woken s i w) (rest ++ sent_by i (step_at s i w).acts) + 4 * is_taken w ≤ fuel_of s rest + spend w (step_at s i w).answer
   wake_falls s rest i w d e b here p calm =
       let k = keeps wakes_hold ram s rest i w d e b here p in
       put_falls s rest i w (step_at s i w) (spend w (step_at s i w).answer) here (b.net.faces i) k.law k.spends.few k.spends.light calm (may wakes_hold ram s rest i w d e b here p)
 
-  pub done_falls : (s : Sys) (rest : List Item) (i latency : ℕ) (x : Packet) → IsSound ram s (Done i x latency ∷ rest)
+  pub done_falls : (s : Sys) (rest : List Item) (i latency : ℕ) (x : Packet) → IsSoundOver y ram s (Done i x latency ∷ rest)
       → (let w = wakes.AtomicDone x latency in fuel_of (woken s i w) (rest ++ sent_by i (step_at s i w).acts) < fuel_of s (Done i x latency ∷ rest))
   done_falls s rest i latency x h =
       let w : Wake = wakes.AtomicDone x latency in
@@ -113,7 +115,7 @@ module _ (ram : ℕ) where
       let m = wake_falls s rest i w Clear Clear (before_wake ram s rest Clear i w now (λ b n. refl) (λ n e. cc)) h.net.placed.0 (pays_none (peer_in s.wires) (faces s) h.net.wired i w (step_at s i w).answer (λ r. (refl, refl, refl, refl))) refl in
       omega (arith, m)
 
-  pub line_falls : (s : Sys) (rest : List Item) (i b : ℕ) (l : Bool) (k : ℕ) → k < length s.objects → IsSound ram s (Sent i (acts.SetLine b l) ∷ rest)
+  pub line_falls : (s : Sys) (rest : List Item) (i b : ℕ) (l : Bool) (k : ℕ) → k < length s.objects → IsSoundOver y ram s (Sent i (acts.SetLine b l) ∷ rest)
       → (let w = wakes.Line b l in fuel_of (woken s k w) (rest ++ sent_by k (step_at s k w).acts) < fuel_of s (Sent i (acts.SetLine b l) ∷ rest))
   line_falls s rest i b l k here h =
       let w : Wake = wakes.Line b l in
@@ -129,7 +131,7 @@ module _ (ram : ℕ) where
       let m = wake_falls s rest k w Clear Clear (before_wake ram s rest Clear k w now (λ b n. refl) (λ n e. cc)) here (pays_none (peer_in s.wires) (faces s) h.net.wired k w (step_at s k w).answer (λ r. (refl, refl, refl, refl))) refl in
       omega (arith, m)
 
-  pub call_falls : (s : Sys) (rest : List Item) (i p : ℕ) → IsSound ram s (Sent i (acts.CallRetry (record { 0 = p })) ∷ rest)
+  pub call_falls : (s : Sys) (rest : List Item) (i p : ℕ) → IsSoundOver y ram s (Sent i (acts.CallRetry (record { 0 = p })) ∷ rest)
       → (let q = peer_in s.wires i p in let w = wakes.Retry (record { 0 = q.port }) in fuel_of (woken s q.part w) (rest ++ sent_by q.part (step_at s q.part w).acts) < fuel_of s (Sent i (acts.CallRetry (record { 0 = p })) ∷ rest))
   call_falls s rest i p h =
       let q : End = peer_in s.wires i p in
@@ -160,7 +162,7 @@ module _ (ram : ℕ) where
   told_calm answers.Refused p = refl
   told_calm answers.Nothing p = refl
 
-  pub offer_falls : (s : Sys) (rest : List Item) (i p : ℕ) (x : Packet) → IsSound ram s (Sent i (offer_out p x) ∷ rest)
+  pub offer_falls : (s : Sys) (rest : List Item) (i p : ℕ) (x : Packet) → IsSoundOver y ram s (Sent i (offer_out p x) ∷ rest)
       → (let d : Delivery = deliver_offer (record { sys = s; items = rest; entries = [] }) i p x (peer_in s.wires i p) in fuel_of d.sys d.items < fuel_of s (Sent i (offer_out p x) ∷ rest))
   offer_falls s rest i p x h =
       let q : End = peer_in s.wires i p in
@@ -168,12 +170,12 @@ module _ (ram : ℕ) where
       let r : Stepped = step_at s q.part w in
       let s1 : Sys = woken s q.part w in
       let items1 : List Item = rest ++ sent_by q.part r.acts in
-      let b1 = first wakes_hold ram s rest i p x h.net h.program in
-      let p1 = pays wakes_hold ram s rest i p x h.net h.program in
-      let t1 = there wakes_hold ram s rest i p x h.net h.program in
-      let b2 = second wakes_hold ram s rest i p x h.net h.program in
-      let p2 = pays2 wakes_hold ram s rest i p x h.net h.program in
-      let t2 = here1 wakes_hold ram s rest i p x h.net h.program in
+      let b1 = first wakes_hold y memory ram s rest i p x h.net h.program in
+      let p1 = pays wakes_hold y memory ram s rest i p x h.net h.program in
+      let t1 = there wakes_hold y memory ram s rest i p x h.net h.program in
+      let b2 = second wakes_hold y memory ram s rest i p x h.net h.program in
+      let p2 = pays2 wakes_hold y memory ram s rest i p x h.net h.program in
+      let t2 = here1 wakes_hold y memory ram s rest i p x h.net h.program in
       let m1 = wake_falls s rest q.part w _ _ b1 t1 p1 refl in
       let m2 = wake_falls s1 items1 i (told_wake r.answer p) _ _ b2 t2 p2 (told_calm r.answer p) in
       omega (arith, m1, m2, told_spends r.answer (step_at s1 i (told_wake r.answer p)).answer p)

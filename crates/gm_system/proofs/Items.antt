@@ -11,7 +11,9 @@ use Rattle.gm_words.specs.declared.entry.Entry.{Entry}
 use Rattle.gm_words.specs.declared.wake.Wake.TheVariants as wakes
 use Rattle.gm_words.specs.declared.kind.Kind.TheVariants as kinds
 use Rattle.gm_laws.specs.Faces.{face_of}
-use Rattle.gm_system.specs.System.{IsSound, Handled}
+use Rattle.gm_system.specs.MemoryLaws.{MemoryLaws}
+use Rattle.gm_system.specs.MemoryView.{MemoryView}
+use Rattle.gm_system.specs.System.{IsSoundOver, Handled}
 use Rattle.gm_system.proofs.Atomics.{atomic_handled}
 use Rattle.gm_laws.proofs.EachKind.{wakes_hold, passes_hold, active_mind}
 use Rattle.gm_system.proofs.Handles.{offer_handled, call_handled, done_handled, line_handled}
@@ -34,15 +36,15 @@ some_from i (suc k) (o ∷ os) m e = by (is_some (arch_of o)) (some_from (i + 1)
 pub active_there : (os : List ObjState) (k : ℕ) (m : Mind) → (face_of (get_or os k (Blank kinds.AtomicCpu))).mind ≡ Some m → is_some (active_cpu os) ≡ true
 active_there os k m e = some_from 0 k os m e
 
-module _ (ram : ℕ) where
-  pub handle_keeps : (s : Sys) (rest : List Item) (es : List Entry) (it : Item) → IsSound ram s (it ∷ rest)
-      → Handled ram (record { sys = s; items = it ∷ rest; entries = es }) (handle (record { sys = s; items = rest; entries = es }) it) (item_moves s it)
-  handle_keeps s rest es (Sent i (acts.Offer p x)) h = offer_handled wakes_hold ram s rest es i p.0 x h
-  handle_keeps s rest es (Sent i (acts.CallRetry p)) h = call_handled wakes_hold ram s rest es i p.0 h
+module _ (y : MemoryView) (memory : MemoryLaws y) (ram : ℕ) where
+  pub handle_keeps : (s : Sys) (rest : List Item) (es : List Entry) (it : Item) → IsSoundOver y ram s (it ∷ rest)
+      → Handled y ram (record { sys = s; items = it ∷ rest; entries = es }) (handle (record { sys = s; items = rest; entries = es }) it) (item_moves s it)
+  handle_keeps s rest es (Sent i (acts.Offer p x)) h = offer_handled wakes_hold y memory ram s rest es i p.0 x h
+  handle_keeps s rest es (Sent i (acts.CallRetry p)) h = call_handled wakes_hold y memory ram s rest es i p.0 h
   handle_keeps s rest es (Sent i (acts.SetLine b l)) h = by (active_cpu s.objects) refl (active_there s.objects h.program.cpu h.program.mind h.program.here) where
     by : (o : Option ℕ) → active_cpu s.objects ≡ o → is_some o ≡ true
-        → Handled ram (record { sys = s; items = Sent i (acts.SetLine b l) ∷ rest; entries = es }) (deliver_line (record { sys = s; items = rest; entries = es }) (wakes.Line b l) o) (line_moves s (wakes.Line b l) o)
+        → Handled y ram (record { sys = s; items = Sent i (acts.SetLine b l) ∷ rest; entries = es }) (deliver_line (record { sys = s; items = rest; entries = es }) (wakes.Line b l) o) (line_moves s (wakes.Line b l) o)
     by None e f = cc
-    by (Some k) e f = line_handled wakes_hold ram s rest es i b l k (omega (arith, active_below 0 k s.objects e)) h
-  handle_keeps s rest es (Sent i (acts.Atomic p x)) h = atomic_handled passes_hold ram s rest i p.0 x h es
-  handle_keeps s rest es (Done i x l) h = done_handled wakes_hold ram s rest es i l x h.net.placed.0 h
+    by (Some k) e f = line_handled wakes_hold y memory ram s rest es i b l k (omega (arith, active_below 0 k s.objects e)) h
+  handle_keeps s rest es (Sent i (acts.Atomic p x)) h = atomic_handled passes_hold y memory ram s rest i p.0 x h es
+  handle_keeps s rest es (Done i x l) h = done_handled wakes_hold y memory ram s rest es i l x h.net.placed.0 h

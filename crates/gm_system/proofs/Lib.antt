@@ -5,6 +5,7 @@ pub mod Packets
 pub mod Thoughts
 pub mod Services
 pub mod Programs
+pub mod Stores
 pub mod Systems
 pub mod Wakes
 pub mod Offers

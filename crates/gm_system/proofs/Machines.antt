@@ -22,11 +22,12 @@ use Rattle.gm_laws.specs.Program.{core, owed}
 use Rattle.gm_laws.specs.Words.{weigh}
 use Rattle.gm_laws.proofs.Commands.{commands_hold}
 use Rattle.gm_system.specs.Machine.{HasSoundParts, AreItemsFit, IsSteady, IsDeliverySound, most_of, speech_left}
-use Rattle.gm_system.specs.System.{IsSound, faces, fuel_of}
+use Rattle.gm_system.specs.System.{IsSound, faces, fuel_of, ram_memory}
 use Rattle.gm_system.proofs.Bounded.{wake_bounded, handle_bounded}
 use Rattle.gm_system.proofs.Deliveries.{first_keeps}
 use Rattle.gm_system.proofs.Ends.{deliver_ends, handle_falls}
 use Rattle.gm_system.proofs.EventEnds.{begun, fuel_enough, here}
+use Rattle.gm_system.proofs.Stores.{ram_laws, same_stored}
 
 -- the queue without one of its events
 
@@ -99,12 +100,12 @@ module _ (ram : ℕ) (s : Sys) (h : IsSound ram s []) where
 pub begun_sound : (s : Sys) (table : List Slot) (n t : ℕ) (e : Due) → IsSteady s table → slice_get s.pending n ≡ Some e → IsDeliverySound (event_begun (taken_out s n t) e) table
 begun_sound s table n t e h there =
     let room : sum_by most_of s.objects + 12 ≤ 120 = h.parts.room in
-    let fuel : fuel_of (event_begun (taken_out s n t) e).sys (event_begun (taken_out s n t) e).items ≤ 120 = fuel_enough h.ram s n t e h.sound h.parts.once there 120 room in
+    let fuel : fuel_of (event_begun (taken_out s n t) e).sys (event_begun (taken_out s n t) e).items ≤ 120 = fuel_enough ram_memory ram_laws h.ram s n t e h.sound h.parts.once there 120 room in
     let p = parts-taken_out s table n t h.parts in
-    let b = wake_bounded (record { sys = taken_out s n t; items = []; entries = [] }) table e.owner.0 (wakes.Event e.slot) (here h.ram s n t e h.sound h.parts.once there 120 room) tt p tt in
+    let b = wake_bounded (record { sys = taken_out s n t; items = []; entries = [] }) table e.owner.0 (wakes.Event e.slot) (here ram_memory ram_laws h.ram s n t e h.sound h.parts.once there 120 room) tt p tt in
     record {
       ram = h.ram;
-      sound = (begun h.ram s n t e h.sound h.parts.once there 120 room).sound;
+      sound = (begun ram_memory ram_laws h.ram s n t e h.sound h.parts.once there 120 room).sound;
       parts = b.parts;
       fit = b.fit;
       fuel = fuel;
@@ -123,8 +124,8 @@ first_sound d table h = by d.items refl where
       let sound : IsSound h.ram d.sys (it ∷ rest) = subst (IsSound h.ram d.sys) e h.sound in
       let fit : AreItemsFit (it ∷ rest) = subst AreItemsFit e h.fit in
       let b = handle_bounded h.ram table d.sys rest d.entries it sound h.parts fit in
-      let less = handle_falls h.ram d.sys rest d.entries it sound in
-      let k = first_keeps h.ram d d.items refl h.sound in
+      let less = handle_falls ram_memory ram_laws h.ram d.sys rest d.entries it sound in
+      let k = first_keeps ram_memory ram_laws h.ram d d.items refl h.sound in
       let same : fuel_of d.sys d.items ≡ fuel_of d.sys (it ∷ rest) = ap (fuel_of d.sys) e in
       record {
         ram = h.ram;
@@ -145,7 +146,7 @@ deliver_sound zero d table h = h
 deliver_sound (suc n) d table h = deliver_sound n (deliver_first d d.items) table (first_sound d table h)
 
 pub all_delivered : (d : Delivery) (table : List Slot) → IsDeliverySound d table → (deliver items_max d).items ≡ []
-all_delivered d table h = deliver_ends h.ram items_max d h.sound (omega (arith, h.fuel))
+all_delivered d table h = deliver_ends ram_memory ram_laws h.ram items_max d h.sound (omega (arith, h.fuel))
 
 -- what was counted doesn't matter to the rest
 sound_counts : (ram : ℕ) (s : Sys) (c : Counts) → IsSound ram s [] → IsSound ram (record s { counts = c }) []
@@ -157,10 +158,7 @@ sound_counts ram s c h = record {
     here = h.program.here;
     alone = h.program.alone;
     kinds = h.program.kinds;
-    store = h.program.store;
-    memory = h.program.memory;
-    kept = h.program.kept;
-    one_store = h.program.one_store;
+    kept = same_stored ram s (record s { counts = c }) refl h.program.kept;
     size = h.program.size;
     owes = h.program.owes;
     fits = h.program.fits;

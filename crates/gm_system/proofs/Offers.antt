@@ -21,16 +21,18 @@ use Rattle.gm_laws.specs.Words.{only, weigh, IsBlind, requests_of, responses_of,
 use Rattle.gm_laws.specs.Face.{Face, came_in, went_out, head_weight, passed_packets, due_before}
 use Rattle.gm_laws.specs.Faces.{face_of, Keeps, SaysNothing}
 use Rattle.gm_system.specs.Net.{Debt, Clear, Offering, Net, Pays, left_by}
-use Rattle.gm_laws.specs.Program.{seen, core, bad, MayThink, Mindless, Thinks}
+use Rattle.gm_laws.specs.Program.{core, bad, MayThink, Mindless, Thinks}
+use Rattle.gm_system.specs.MemoryLaws.{IsElse, IsStepOf, MemoryLaws}
+use Rattle.gm_system.specs.MemoryView.{MemoryView, MemoryStep, MemoryRests, Shown}
 use Rattle.gm_system.specs.System.{IsNet, IsProgram, faces, others_packets, IsById}
 use Rattle.gm_laws.proofs.Counts.{only_self, only_zero}
 use Rattle.gm_laws.proofs.Weights.{weigh-append, core_blind}
 use Rattle.gm_system.proofs.Debts.{pays_offer, pays_told}
 use Rattle.gm_system.proofs.Packets.{parts-set, part_le, two_parts, items-weigh, sent-weigh, others-append, others-sent, others-own, blank_packets}
-use Rattle.gm_system.proofs.Programs.{Shift, IsElse, Step, program_step}
+use Rattle.gm_system.proofs.Programs.{Shift, Step, program_step}
 use Rattle.gm_laws.specs.Laws.{WakesHold}
-use Rattle.gm_system.proofs.Systems.{IsBefore, net_part, keeps, at_same, at_other, net_kept, part_there}
-use Rattle.gm_system.proofs.Wakes.{responses_core, seen_by}
+use Rattle.gm_system.proofs.Systems.{IsBefore, net_part, may, keeps, at_same, at_other, net_kept, part_there}
+use Rattle.gm_system.proofs.Wakes.{responses_core}
 
 -- the offer leaves the list
 pop_offer : (peer : ℕ → ℕ → End) (f : ℕ → Face) (rest : List Item) (i p : ℕ) (x : Packet) → Net peer f (Sent i (offer_out p x) ∷ rest) Clear → Net peer f rest (Offering i p)
@@ -90,13 +92,13 @@ taken_le answers.Refused n = omega arith
 taken_le answers.Nothing n = omega arith
 
 -- what an offer leaves
-pub record Offered (ram : ℕ) (s t : Sys) (items later : List Item) (es : List Entry) (m : Moves) : Type 0 where
+pub record Offered (y : MemoryView) (ram : ℕ) (s t : Sys) (items later : List Item) (es : List Entry) (m : Moves) : Type 0 where
   pub net : IsNet ram t later Clear
-  pub step : Step ram s t items later es
+  pub step : Step y ram s t items later es
   pub same : (h : Packet → ℕ) → IsBlind h → IsById h → weigh h (all_packets t later) + (weigh h m.answered + weigh h m.absorbed) ≡ weigh h (all_packets s items) + weigh h m.made
 
-module _ (laws : WakesHold) (ram : ℕ) (s : Sys) (rest : List Item) (i p : ℕ) (x : Packet) (h : IsNet ram s (Sent i (offer_out p x) ∷ rest) Clear)
-    (v : IsProgram ram s (Sent i (offer_out p x) ∷ rest)) where
+module _ (laws : WakesHold) (y : MemoryView) (memory : MemoryLaws y) (ram : ℕ) (s : Sys) (rest : List Item) (i p : ℕ) (x : Packet) (h : IsNet ram s (Sent i (offer_out p x) ∷ rest) Clear)
+    (v : IsProgram y ram s (Sent i (offer_out p x) ∷ rest)) where
   abbrev pub q : End
   q = peer_in s.wires i p
 
@@ -279,6 +281,7 @@ module _ (laws : WakesHold) (ram : ℕ) (s : Sys) (rest : List Item) (i p : ℕ)
     memories = λ j n. memories j n (cases_eq j i);
     cpus = λ j. by_cpu j (cases_eq j i) (cases_eq j (peer_in s.wires i p).part);
     instants = λ j. by_instant j (cases_eq j i) (cases_eq j (peer_in s.wires i p).part);
+    caches = λ j. by_caches j (cases_eq j i) (cases_eq j (peer_in s.wires i p).part);
   } where
     minds : (j : ℕ) → (j ≡ (peer_in s.wires i p).part → ⊥) → (j ≡ i) ⊎ (j ≡ i → ⊥) → (faces s2 j).mind ≡ (faces s j).mind
     minds j n (inl e) = subst (λ t. (faces s2 t).mind ≡ (faces s t).mind) (sym e) (ap (λ o. (face_of o).mind) same2 ∙ (quiet2.mind ∙ ap (λ o. (face_of o).mind) sender1))
@@ -298,6 +301,29 @@ module _ (laws : WakesHold) (ram : ℕ) (s : Sys) (rest : List Item) (i p : ℕ)
     by_instant j (inr m) (inl e) = subst (λ t. (faces s2 t).instant ≡ (faces s t).instant) (sym e) (ap (λ o. (face_of o).instant) at_peer2 ∙ k.same.instant)
     by_instant j (inr m) (inr n) = ap (λ o. (face_of o).instant) (other2 j m ∙ other1 j n)
 
+    by_caches : (j : ℕ) → (j ≡ i) ⊎ (j ≡ i → ⊥) → (j ≡ (peer_in s.wires i p).part) ⊎ (j ≡ (peer_in s.wires i p).part → ⊥) → (faces s2 j).caches ≡ (faces s j).caches
+    by_caches j (inl e) b = subst (λ t. (faces s2 t).caches ≡ (faces s t).caches) (sym e) (ap (λ o. (face_of o).caches) same2 ∙ (k2.same.caches ∙ ap (λ o. (face_of o).caches) sender1))
+    by_caches j (inr m) (inl e) = subst (λ t. (faces s2 t).caches ≡ (faces s t).caches) (sym e) (ap (λ o. (face_of o).caches) at_peer2 ∙ k.same.caches)
+    by_caches j (inr m) (inr n) = ap (λ o. (face_of o).caches) (other2 j m ∙ other1 j n)
+
+  -- what both wakes mean to memory
+  is_step : IsStepOf y ram v.mind s s2 (peer_in s.wires i p).part w
+  is_step = record {
+    kept = v.kept;
+    size = v.size;
+    parts = h.parts;
+    happens = Shown i p x refl refl refl;
+    same = same_else;
+    wake = may laws ram s rest (peer_in s.wires i p).part w (Offering i p) (left_by r.answer i p) first there pays;
+    think = may_think;
+  }
+
+  recalled : (faces s (peer_in s.wires i p).part).mind ≡ None → MemoryStep y s.routes ram s s2 r.moves.served r.entries
+  recalled e = memory.serves ram v.mind s s2 (peer_in s.wires i p).part w is_step (k.mindless v.mind e may_think)
+
+  rests : (faces s (peer_in s.wires i p).part).mind ≡ Some v.mind → MemoryRests y ram s s2
+  rests e = memory.rests ram v.mind s s2 (peer_in s.wires i p).part w is_step (k.thinks v.mind e may_think)
+
   quiet : ((peer_in s.wires i p).part ≡ v.cpu → ⊥) → Mindless s.routes ram (faces s (peer_in s.wires i p).part) (face_of r.state) r.acts r.entries r.moves
   quiet n = k.mindless v.mind (v.alone (peer_in s.wires i p).part n) may_think
 
@@ -310,7 +336,7 @@ module _ (laws : WakesHold) (ram : ℕ) (s : Sys) (rest : List Item) (i p : ℕ)
     by (inl e) = absurd (omega (arith, real, (h.net.faces (peer_in s.wires i p).part).portless (ap (λ j. (faces s j).instant) e ∙ u)))
     by (inr n) =
         let m = quiet n in
-        let sv = responses_core s.routes v.memory (seen (face_of r.state).memory v.memory) r.moves.served r.entries (m.serves v.memory v.size (seen_by ram s (Sent i (offer_out p x) ∷ rest) v (peer_in s.wires i p).part)) in
+        let sv = responses_core s.routes (y.view s) (y.view s2) r.moves.served r.entries (recalled (v.alone (peer_in s.wires i p).part n)).serves in
         omega (
           arith,
           v.at_once u,
@@ -365,12 +391,12 @@ module _ (laws : WakesHold) (ram : ℕ) (s : Sys) (rest : List Item) (i p : ℕ)
       (quiet n).passed,
     )
 
-  pub offer_keeps : Offered ram s s2 (Sent i (offer_out p x) ∷ rest) items2 (r.entries ++ r2.entries) (joined r.moves r2.moves)
+  pub offer_keeps : Offered y ram s s2 (Sent i (offer_out p x) ∷ rest) items2 (r.entries ++ r2.entries) (joined r.moves r2.moves)
   offer_keeps = record {
     net = net2;
-    step = subst (λ (es : List Entry). Step ram s s2 (Sent i (offer_out p x) ∷ rest) items2 es) (sym (append-nil r.entries) ∙ ap (λ (es : List Entry). r.entries ++ es) (sym quiet2.entries))
-        (program_step ram s s2 (Sent i (offer_out p x) ∷ rest) items2 (peer_in s.wires i p).part w (face_of r.state) r.acts r.entries r.moves v same_else shift may_think
-        (λ e. k.mindless v.mind e may_think) (λ e. k.thinks v.mind e may_think) at_once in_time senders);
+    step = subst (λ (es : List Entry). Step y ram s s2 (Sent i (offer_out p x) ∷ rest) items2 es) (sym (append-nil r.entries) ∙ ap (λ (es : List Entry). r.entries ++ es) (sym quiet2.entries))
+        (program_step y ram s s2 (Sent i (offer_out p x) ∷ rest) items2 (peer_in s.wires i p).part w (face_of r.state) r.acts r.entries r.moves v same_else shift may_think
+        (λ e. k.mindless v.mind e may_think) (λ e. k.thinks v.mind e may_think) recalled rests at_once in_time senders);
     same = λ f b u. omega (
       arith,
       shift.before f b,

@@ -25,11 +25,12 @@ use Rattle.gm_laws.proofs.Bytes.{no_entry, replay-append}
 use Rattle.gm_laws.proofs.Weights.{weigh-append}
 use Rattle.gm_system.specs.Machine.{IsSteady, IsDeliverySound, AreItemsFit, AreBetween, IsTimely}
 use Rattle.gm_system.specs.Runs.{Replays, IsRunReplayed}
-use Rattle.gm_system.specs.System.{IsSound, IsById, IsWiredAlike, Handled}
+use Rattle.gm_system.specs.System.{IsSound, IsById, IsWiredAlike, Handled, ram_memory}
 use Rattle.gm_system.proofs.Bounded.{wake_bounded, handle_bounded}
 use Rattle.gm_system.proofs.Deliveries.{alike}
 use Rattle.gm_system.proofs.Events.{event_keeps}
 use Rattle.gm_system.proofs.EventEnds.{here}
+use Rattle.gm_system.proofs.Stores.{ram_laws}
 use Rattle.gm_system.proofs.Machines.{false_is, parts-taken_out, begun_sound, first_sound, fired_sound, all_delivered}
 
 -- one after another
@@ -112,8 +113,8 @@ module _ (s : Sys) (table : List Slot) (n t : ℕ) (e : Due) (h : IsSteady s tab
   b : IsDeliverySound (event_begun (taken_out s n t) e) table
   b = begun_sound s table n t e h there
 
-  k : (let d : Delivery = record { sys = taken_out s n t; items = []; entries = [] } in Handled h.ram d (event_delivered (taken_out s n t) e) (event_moves (taken_out s n t) e))
-  k = event_keeps h.ram s n t e h.sound h.parts.once there
+  k : (let d : Delivery = record { sys = taken_out s n t; items = []; entries = [] } in Handled ram_memory h.ram d (event_delivered (taken_out s n t) e) (event_moves (taken_out s n t) e))
+  k = event_keeps ram_memory ram_laws h.ram s n t e h.sound h.parts.once there
 
   over : (event_delivered (taken_out s n t) e).items ≡ []
   over = all_delivered (event_begun (taken_out s n t) e) table b
@@ -125,7 +126,7 @@ module _ (s : Sys) (table : List Slot) (n t : ℕ) (e : Due) (h : IsSteady s tab
     replays = ap (λ es. replay s.routes (program_state s []) es) k.replayed.entries ∙ (k.replayed.replays ∙ ap (λ is. Some (program_state (event_delivered (taken_out s n t) e).sys is)) over);
     conserved = λ f i. omega (arith, k.conserved.same f i, ap (λ is. weigh f (all_packets (event_delivered (taken_out s n t) e).sys is)) over);
     drawn = drawn-append s.next (event_begun (taken_out s n t) e).sys.next (event_delivered (taken_out s n t) e).sys.next (step_at (taken_out s n t) e.owner.0 (wakes.Event e.slot)).moves.made (deliver_moves items_max (event_begun (taken_out s n t) e)).made
-        (wake_bounded (record { sys = taken_out s n t; items = []; entries = [] }) table e.owner.0 (wakes.Event e.slot) (here h.ram s n t e h.sound h.parts.once there 120 h.parts.room) tt (parts-taken_out s table n t h.parts) tt).drawn
+        (wake_bounded (record { sys = taken_out s n t; items = []; entries = [] }) table e.owner.0 (wakes.Event e.slot) (here ram_memory ram_laws h.ram s n t e h.sound h.parts.once there 120 h.parts.room) tt (parts-taken_out s table n t h.parts) tt).drawn
         (deliver_drawn items_max (event_begun (taken_out s n t) e) table b);
   }
 
@@ -162,7 +163,7 @@ timed_of s table (suc n) h =
 fired_tick : (s : Sys) (table : List Slot) (n t : ℕ) (o : Option Due) → IsSteady s table → slice_get s.pending n ≡ o → ((fire_event s n t o).sys.tick ≡ t) ⊎ ((fire_event s n t o).sys.tick ≡ s.tick)
 fired_tick s table n t None h g = inr refl
 fired_tick s table n t (Some e) h g =
-    let w = wake_bounded (record { sys = taken_out s n t; items = []; entries = [] }) table e.owner.0 (wakes.Event e.slot) (here h.ram s n t e h.sound h.parts.once g 120 h.parts.room) tt (parts-taken_out s table n t h.parts) tt in
+    let w = wake_bounded (record { sys = taken_out s n t; items = []; entries = [] }) table e.owner.0 (wakes.Event e.slot) (here ram_memory ram_laws h.ram s n t e h.sound h.parts.once g 120 h.parts.room) tt (parts-taken_out s table n t h.parts) tt in
     inl (deliver_tick items_max (event_begun (taken_out s n t) e) table (begun_sound s table n t e h g) ∙ w.tick)
 
 pub fire_tick : (s : Sys) (table : List Slot) (n t most : ℕ) → IsSteady s table → s.tick ≤ most → t ≤ most → (fire s n t).sys.tick ≤ most
@@ -193,7 +194,7 @@ fire_timely s table d h t f l = by s.pending refl f where
   timely : (e : Due) → slice_get s.pending 0 ≡ Some e → AreBetween e.tick 4611703610613432320 (without_nth s.pending 0) → e.tick ≤ 4611686018427387904 → IsTimely (fire_event s 0 e.tick (Some e)).sys
   timely e g a m =
       let b = begun_sound s table 0 e.tick e h g in
-      let w = wake_bounded (record { sys = taken_out s 0 e.tick; items = []; entries = [] }) table e.owner.0 (wakes.Event e.slot) (here h.ram s 0 e.tick e h.sound h.parts.once g 120 h.parts.room) tt (parts-taken_out s table 0 e.tick h.parts) tt in
+      let w = wake_bounded (record { sys = taken_out s 0 e.tick; items = []; entries = [] }) table e.owner.0 (wakes.Event e.slot) (here ram_memory ram_laws h.ram s 0 e.tick e h.sound h.parts.once g 120 h.parts.room) tt (parts-taken_out s table 0 e.tick h.parts) tt in
       let one = w.timely e.tick 4611703610613432320 (omega arith) (in_reach e.tick m) a in
       let all = deliver_between items_max (event_begun (taken_out s 0 e.tick) e) table e.tick 4611703610613432320 b (omega (arith, w.tick)) (omega (arith, ap latest w.tick, in_reach e.tick m)) one in
       subst (λ n. AreBetween n 4611703610613432320 (event_delivered (taken_out s 0 e.tick) e).sys.pending) (sym (deliver_tick items_max (event_begun (taken_out s 0 e.tick) e) table b ∙ w.tick)) all

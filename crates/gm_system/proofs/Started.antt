@@ -42,9 +42,10 @@ use Rattle.gm_laws.proofs.Counts.{only_zero}
 use Rattle.gm_laws.proofs.EachKind.{blank_ok}
 use Rattle.gm_system.specs.Machine.{IsSteady, IsMachineSound, most_of}
 use Rattle.gm_system.specs.Net.{IsWired}
-use Rattle.gm_system.specs.System.{IsRouted}
+use Rattle.gm_system.specs.System.{IsRouted, IsStored, ram_memory}
 use Rattle.gm_system.proofs.Commands.{put_size}
 use Rattle.gm_system.proofs.Starts.{IsStill, IsIdle, still_sound}
+use Rattle.gm_system.proofs.Stores.{stored_view}
 
 -- what isn't there
 abbrev nobody : ObjState
@@ -499,6 +500,19 @@ module _ (c : Config) (v : IsValidConfig c) (b : Bool) where
     unfolding face_of
     one_memory = (refl, (refl, (refl, (refl, (refl, (refl, (refl, tt)))))))
 
+    -- no part has lines of memory
+    plain : (k : ℕ) → (f k).caches ≡ false
+    unfolding face_of
+    plain zero = refl
+    plain (suc zero) = refl
+    plain (suc (suc zero)) = refl
+    plain (suc (suc (suc zero))) = refl
+    plain (suc (suc (suc (suc zero)))) = refl
+    plain (suc (suc (suc (suc (suc zero))))) = refl
+    plain (suc (suc (suc (suc (suc (suc zero)))))) = refl
+    plain (suc (suc (suc (suc (suc (suc (suc zero))))))) = refl
+    plain (suc (suc (suc (suc (suc (suc (suc (suc k)))))))) = refl
+
     no_memory : (face_of nobody).memory ≡ None
     unfolding face_of
     no_memory = refl
@@ -532,7 +546,14 @@ module _ (c : Config) (v : IsValidConfig c) (b : Bool) where
     unfolding wired
     begun_steady a hart size table slots =
         let s : Sys = begun_at c (parts_at c b atomic timing m) in
-        let still : IsStill c.system_ram s = record {
+        let stored : IsStored c.system_ram s = record {
+          store = 3;
+          memory = m;
+          kept = kept;
+          one_store = others_none (λ o. (face_of o).memory) no_memory 3 (parts_at c b atomic timing m) one_memory;
+          plain = plain;
+        } in
+        let still : IsStill ram_memory c.system_ram s = record {
           parts = λ k. (begun k).ok;
           idle = λ k. (begun k).idle;
           wired = wired;
@@ -545,16 +566,13 @@ module _ (c : Config) (v : IsValidConfig c) (b : Bool) where
           rests = refl;
           alone = others_none (λ o. (face_of o).mind) no_mind hart.cpu (parts_at c b atomic timing m) hart.alone;
           kinds = hart.kinds;
-          store = 3;
-          memory = m;
-          kept = kept;
-          one_store = others_none (λ o. (face_of o).memory) no_memory 3 (parts_at c b atomic timing m) one_memory;
-          size = size;
+          kept = stored;
+          size = ap length (stored_view c.system_ram s stored) ∙ size;
           mapped = ram_mapped;
         } in
         record {
           ram = c.system_ram;
-          sound = still_sound c.system_ram s still;
+          sound = still_sound ram_memory c.system_ram s still;
           parts = record {
             numbered = λ k l. number_at 0 (parts_at c b atomic timing m) (refl, (refl, (refl, (refl, (refl, (refl, (refl, (refl, tt)))))))) k l ∙ omega arith;
             slots = slots;

@@ -1,5 +1,5 @@
 -- A machine in which no packet is under way is sound.
-use Rattle.std.proofs.Common.{◌≡◌, ℕ, ◌≤◌, true, false, List, [], ◌++◌, refl, ◌∙◌, ap, arith, Some, None, length}
+use Rattle.std.proofs.Common.{◌≡◌, ℕ, ◌≤◌, true, false, [], ◌++◌, refl, ◌∙◌, ap, arith, Some, None, length}
 use Rattle.std.proofs.lemmas.List.{append-nil}
 use Rattle.ev_queue.specs.PendingList.{is_pending}
 use Rattle.gm_words.specs.Platform.{is_in_ram}
@@ -12,7 +12,8 @@ use Rattle.gm_laws.specs.Face.{Face, FaceOk}
 use Rattle.gm_laws.specs.Faces.{IsOk}
 use Rattle.gm_system.specs.Net.{IsWired}
 use Rattle.gm_laws.specs.Program.{core, owed, bad}
-use Rattle.gm_system.specs.System.{IsSound, IsRouted, faces}
+use Rattle.gm_system.specs.MemoryView.{MemoryView}
+use Rattle.gm_system.specs.System.{IsSoundOver, IsRouted, faces}
 
 -- nothing is asked, waited for or wanted
 pub record IsIdle (f : Face) : Type 0 where
@@ -23,7 +24,7 @@ pub record IsIdle (f : Face) : Type 0 where
   pub hungry : (l : ℕ) → f.hungry l ≡ false
 
 -- what a machine is at its start, and once it is drained
-pub record IsStill (ram : ℕ) (s : Sys) : Type 0 where
+pub record IsStill (y : MemoryView) (ram : ℕ) (s : Sys) : Type 0 where
   pub parts : (k : ℕ) → IsOk s.routes ram (object_at s k)
   pub idle : (k : ℕ) → IsIdle (faces s k)
   pub wired : IsWired (peer_in s.wires) (faces s)
@@ -36,15 +37,12 @@ pub record IsStill (ram : ℕ) (s : Sys) : Type 0 where
   pub rests : owed mind.doing ≡ 0
   pub alone : (k : ℕ) → (k ≡ cpu → ⊥) → (faces s k).mind ≡ None
   pub kinds : (k : ℕ) → (k ≡ cpu → ⊥) → (faces s k).cpu ≡ true → (faces s cpu).instant ≡ false → (faces s k).instant ≡ true
-  pub store : ℕ
-  pub memory : List ℕ
-  pub kept : (faces s store).memory ≡ Some memory
-  pub one_store : (k : ℕ) → (k ≡ store → ⊥) → (faces s k).memory ≡ None
-  pub size : length memory ≡ ram
+  pub kept : y.IsKept ram s
+  pub size : length (y.view s) ≡ ram
   pub mapped : (address count : ℕ) → 1 ≤ count → is_in_ram ram address count ≡ true → is_unmapped s.routes address ≡ false
 
-pub still_sound : (ram : ℕ) (s : Sys) → IsStill ram s → IsSound ram s []
-still_sound ram s h =
+pub still_sound : (y : MemoryView) (ram : ℕ) (s : Sys) → IsStill y ram s → IsSoundOver y ram s []
+still_sound y ram s h =
     let none : (f : Packet → ℕ) → weigh f (part_packets s.objects ++ []) ≡ 0 = (λ f. ap (weigh f) (append-nil (part_packets s.objects) ∙ h.empty)) in
     record {
       net = record {
@@ -69,10 +67,7 @@ still_sound ram s h =
         here = h.here;
         alone = h.alone;
         kinds = h.kinds;
-        store = h.store;
-        memory = h.memory;
         kept = h.kept;
-        one_store = h.one_store;
         size = h.size;
         owes = omega (arith, none core, h.rests);
         fits = none (bad s.routes ram h.mind);

@@ -21,14 +21,16 @@ use Rattle.gm_laws.specs.Words.{weigh, IsBlind, requests_of, responses_of}
 use Rattle.gm_laws.specs.Face.{Face, came_in, went_out, passed_packets}
 use Rattle.gm_laws.specs.Faces.{face_of, Keeps}
 use Rattle.gm_system.specs.Net.{Debt, Clear, Pays}
-use Rattle.gm_laws.specs.Program.{bit, seen, core, bad, Serves, none, aside, serves, MayThink, Mindless, Thinks}
+use Rattle.gm_laws.specs.Program.{bit, core, bad, Serves, none, aside, serves, MayThink, Mindless, Thinks}
+use Rattle.gm_system.specs.MemoryLaws.{IsElse, IsStepOf, MemoryLaws}
+use Rattle.gm_system.specs.MemoryView.{MemoryView, MemoryStep, MemoryRests, Alone, is_lone}
 use Rattle.gm_system.specs.System.{IsNet, IsProgram, faces, others_packets, IsById}
 use Rattle.gm_laws.proofs.Weights.{weigh-append, core_blind}
 use Rattle.gm_system.proofs.Packets.{parts-set, part_le, items-weigh, sent-weigh, others-append, others-sent, others-own, blank_packets}
-use Rattle.gm_system.proofs.Programs.{Shift, IsElse, Step, program_step}
+use Rattle.gm_system.proofs.Programs.{Shift, Step, program_step}
 use Rattle.gm_system.proofs.Services.{same_source}
 use Rattle.gm_laws.specs.Laws.{WakesHold}
-use Rattle.gm_system.proofs.Systems.{IsBefore, net_part, keeps, at_same, at_other, net_kept}
+use Rattle.gm_system.proofs.Systems.{IsBefore, net_part, may, keeps, at_same, at_other, net_kept}
 
 -- what is served is the hart's, or not, as its response is
 pub responses_core : (rs : List Route) (m n : List ℕ) (vs : List Service) (es : List Entry) → Serves rs m vs es n → weigh core (responses_of vs) ≡ weigh core (requests_of vs)
@@ -36,13 +38,6 @@ responses_core rs _ _ _ _ (none m) = refl
 responses_core rs _ _ _ _ (aside m n vs e es h more) = responses_core rs m n vs es more
 responses_core rs _ _ _ _ (serves m n o v vs xs es svc more) =
     omega (arith, ap (λ k. bit (is_of_hart k)) (same_source rs v.request v.response m n xs svc), responses_core rs n o vs es more)
-
--- RAM's bytes, seen from any part
-pub seen_by : (ram : ℕ) (s : Sys) (items : List Item) (p : IsProgram ram s items) (j : ℕ) → seen (faces s j).memory p.memory ≡ p.memory
-seen_by ram s items p j = by (cases_eq j p.store) where
-  by : (j ≡ p.store) ⊎ (j ≡ p.store → ⊥) → seen (faces s j).memory p.memory ≡ p.memory
-  by (inl e) = ap (λ o. seen o p.memory) (ap (λ n. (faces s n).memory) e ∙ p.kept)
-  by (inr n) = ap (λ o. seen o p.memory) (p.one_store j n)
 
 -- what the program asks of the wake, by the item that it comes of
 pub record Comes (s : Sys) (before rest : List Item) (c : ℕ) (i : ℕ) (w : Wake) : Type 0 where
@@ -52,16 +47,17 @@ pub record Comes (s : Sys) (before rest : List Item) (c : ℕ) (i : ℕ) (w : Wa
   pub done : (i ≡ c → ⊥) → (a : Answer) → came_in core w a ≤ weigh core (others_packets c before)
   pub is_done : (x : Packet) (l : ℕ) → w ≡ wakes.AtomicDone x l → (is_response x.cmd ≡ true) × (core x ≡ came_in core w answers.Nothing)
   pub lines : (b : ℕ) (l : Bool) → w ≡ wakes.Line b l → is_line b ≡ true
+  pub lone : is_lone w ≡ true
 
 -- a wake's effect on the whole machine
-pub record Woke (ram : ℕ) (s : Sys) (before rest : List Item) (i : ℕ) (w : Wake) : Type 0 where
+pub record Woke (y : MemoryView) (ram : ℕ) (s : Sys) (before rest : List Item) (i : ℕ) (w : Wake) : Type 0 where
   pub net : IsNet ram (woken s i w) (rest ++ sent_by i (step_at s i w).acts) Clear
-  pub step : Step ram s (woken s i w) before (rest ++ sent_by i (step_at s i w).acts) (step_at s i w).entries
+  pub step : Step y ram s (woken s i w) before (rest ++ sent_by i (step_at s i w).acts) (step_at s i w).entries
   pub same : (h : Packet → ℕ) → IsBlind h → IsById h → weigh h (all_packets (woken s i w) (rest ++ sent_by i (step_at s i w).acts)) + weigh h ((step_at s i w).moves.answered ++ (step_at s i w).moves.absorbed)
       ≡ weigh h (all_packets s before) + weigh h (step_at s i w).moves.made
 
-module _ (laws : WakesHold) (ram : ℕ) (s : Sys) (before rest : List Item) (i : ℕ) (w : Wake) (d : Debt) (b : IsBefore ram s rest d i w) (here : i < length s.objects)
-    (pays : Pays (peer_in s.wires) (faces s) i w (step_at s i w).answer d Clear) (p : IsProgram ram s before) (c : Comes s before rest p.cpu i w) where
+module _ (laws : WakesHold) (y : MemoryView) (memory : MemoryLaws y) (ram : ℕ) (s : Sys) (before rest : List Item) (i : ℕ) (w : Wake) (d : Debt) (b : IsBefore ram s rest d i w) (here : i < length s.objects)
+    (pays : Pays (peer_in s.wires) (faces s) i w (step_at s i w).answer d Clear) (p : IsProgram y ram s before) (c : Comes s before rest p.cpu i w) where
   r : Stepped
   r = step_at s i w
 
@@ -125,6 +121,7 @@ module _ (laws : WakesHold) (ram : ℕ) (s : Sys) (before rest : List Item) (i :
     memories = λ j n. ap (λ o. (face_of o).memory) (other j n);
     cpus = λ j. by_cpu j (cases_eq j i);
     instants = λ j. by_instant j (cases_eq j i);
+    caches = λ j. by_caches j (cases_eq j i);
   } where
     same : object_at (woken s i w) i ≡ (step_at s i w).state
     same = at_same ram s rest i w (step_at s i w) d Clear b here (net_part s.routes ram (faces s i) w (step_at s i w) k) pays
@@ -140,6 +137,28 @@ module _ (laws : WakesHold) (ram : ℕ) (s : Sys) (before rest : List Item) (i :
     by_instant j (inl e) = subst (λ q. (faces (woken s i w) q).instant ≡ (faces s q).instant) (sym e) (ap (λ o. (face_of o).instant) same ∙ k.same.instant)
     by_instant j (inr n) = ap (λ o. (face_of o).instant) (other j n)
 
+    by_caches : (j : ℕ) → (j ≡ i) ⊎ (j ≡ i → ⊥) → (faces (woken s i w) j).caches ≡ (faces s j).caches
+    by_caches j (inl e) = subst (λ q. (faces (woken s i w) q).caches ≡ (faces s q).caches) (sym e) (ap (λ o. (face_of o).caches) same ∙ k.same.caches)
+    by_caches j (inr n) = ap (λ o. (face_of o).caches) (other j n)
+
+  -- what it means to memory
+  is_step : IsStepOf y ram p.mind s (woken s i w) i w
+  is_step = record {
+    kept = p.kept;
+    size = p.size;
+    parts = b.parts;
+    happens = Alone c.lone refl;
+    same = same_else;
+    wake = may laws ram s rest i w d Clear b here pays;
+    think = may_think;
+  }
+
+  recalled : (faces s i).mind ≡ None → MemoryStep y s.routes ram s (woken s i w) (step_at s i w).moves.served (step_at s i w).entries
+  recalled e = memory.serves ram p.mind s (woken s i w) i w is_step (k.mindless p.mind e may_think)
+
+  rests : (faces s i).mind ≡ Some p.mind → MemoryRests y ram s (woken s i w)
+  rests e = memory.rests ram p.mind s (woken s i w) i w is_step (k.thinks p.mind e may_think)
+
   quiet : (i ≡ p.cpu → ⊥) → Mindless s.routes ram (faces s i) (face_of (step_at s i w).state) (step_at s i w).acts (step_at s i w).entries (step_at s i w).moves
   quiet n = k.mindless p.mind (p.alone i n) may_think
 
@@ -154,7 +173,7 @@ module _ (laws : WakesHold) (ram : ℕ) (s : Sys) (before rest : List Item) (i :
         omega (arith, parts_later core, p.at_once u, ap (weigh core) g)
     by (inr n) =
         let q = quiet n in
-        let sv = responses_core s.routes p.memory (seen (face_of (step_at s i w).state).memory p.memory) (step_at s i w).moves.served (step_at s i w).entries (q.serves p.memory p.size (seen_by ram s before p i)) in
+        let sv = responses_core s.routes (y.view s) (y.view (woken s i w)) (step_at s i w).moves.served (step_at s i w).entries (recalled (p.alone i n)).serves in
         omega (arith, parts_later core, p.at_once u, part_le core s.objects i (Blank kinds.AtomicCpu) here, k.conserves.before core core_blind, k.conserves.after core core_blind, q.made, sv, c.done n (step_at s i w).answer, p.senders)
 
   in_time : (faces s p.cpu).instant ≡ false → weigh core (item_packets (rest ++ sent_by i (step_at s i w).acts)) ≡ 0
@@ -169,10 +188,10 @@ module _ (laws : WakesHold) (ram : ℕ) (s : Sys) (before rest : List Item) (i :
     by (inl e) = omega (arith, others-append core p.cpu rest (sent_by i (step_at s i w).acts), c.others, p.senders, subst (λ j. weigh core (others_packets p.cpu (sent_by j (step_at s i w).acts)) ≡ 0) (sym e) (others-own core p.cpu (step_at s i w).acts))
     by (inr n) = omega (arith, others-append core p.cpu rest (sent_by i (step_at s i w).acts), c.others, p.senders, others-sent core p.cpu i (step_at s i w).acts, (quiet n).passed)
 
-  pub wake_keeps : Woke ram s before rest i w
+  pub wake_keeps : Woke y ram s before rest i w
   wake_keeps = record {
     net = net_kept ram s rest i w (step_at s i w) d Clear b here (net_part s.routes ram (faces s i) w (step_at s i w) k) pays;
-    step = program_step ram s (woken s i w) before (rest ++ sent_by i (step_at s i w).acts) i w (face_of (step_at s i w).state) (step_at s i w).acts (step_at s i w).entries (step_at s i w).moves p same_else shift may_think
-        (λ e. k.mindless p.mind e may_think) (λ e. k.thinks p.mind e may_think) at_once in_time senders;
+    step = program_step y ram s (woken s i w) before (rest ++ sent_by i (step_at s i w).acts) i w (face_of (step_at s i w).state) (step_at s i w).acts (step_at s i w).entries (step_at s i w).moves p same_else shift may_think
+        (λ e. k.mindless p.mind e may_think) (λ e. k.thinks p.mind e may_think) recalled rests at_once in_time senders;
     same = λ h e u. omega (arith, shift.before h e, shift.after h e, k.conserves.numbers h u, weigh-append h (step_at s i w).moves.answered (step_at s i w).moves.absorbed);
   }

@@ -1,5 +1,7 @@
 pub mod Net
+pub mod MemoryView
 pub mod System
+pub mod MemoryLaws
 pub mod Ways
 pub mod Machine
 pub mod Runs
