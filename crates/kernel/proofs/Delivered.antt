@@ -150,6 +150,13 @@ countable s e table d w v h idle begun delivered =
     let Q : Delivery → Type 0 = IsCountable in
     subst Q (sym all) (under_way_countable (deliver 256 (event_begun s e)) table (more_under_way 256 (event_begun s e) table h.under_way))
 
+-- once its owner was woken, the event is under way
+pub begun_under_way : (s : Sys) (e : Due) (table table' : List Slot) (d w : Delivery) → MayServe s e table → d ≡ not_begun s
+    → w ≡ deliver_wake d e.owner.0 (wakes.Event e.slot) → table' ≡ table → IsUnderWay w table'
+begun_under_way s e table table' d w h idle begun same =
+    let first : w ≡ event_begun s e = begun ∙ ap (λ x. deliver_wake x e.owner.0 (wakes.Event e.slot)) idle in
+    subst (λ t. IsUnderWay w t) (sym same) (subst (λ (v : Delivery). IsUnderWay v table) (sym first) h.under_way)
+
 -- a packet is shown to the peer that was looked up, and then its answer told
 module _ (d d' : Delivery) (table : List Slot) (i port : ℕ) (p : Packet) (e peer : End) (a : Answer) (w : Wake) (same : e ≡ peer)
     (shown : d' ≡ deliver_wake d e.part (wakes.Offer (record { 0 = e.port }) p)) (answer : a ≡ (step_at d.sys e.part (wakes.Offer (record { 0 = e.port }) p)).answer)

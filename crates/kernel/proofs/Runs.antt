@@ -68,6 +68,15 @@ module _ (s b : Sys) (e : Due) (table : List Slot) (h : IsMachineSound s table) 
   pub fired_sound : (s' : Sys) (table' : List Slot) → s' ≡ (counted (event_delivered (at_tick e.tick b) e)).sys → table' ≡ table → IsMachineSound s' table'
   fired_sound s' table' t u = rw (fired_sys s' t, fired_once, u) (served_sound s table 0 e.tick h l)
 
+-- where no event is pending, the machine stays as it is
+pub none_pending : (s t : Sys) (table table' : List Slot) → first s.pending ≡ None → t ≡ without_first s → table' ≡ table → IsMachineSound s table → IsMachineSound t table'
+none_pending s t table table' none taken same h =
+    let kept : t ≡ s = taken ∙ ap (λ es. let u : Sys = record s { pending = es } in u) (by s.pending none) in
+    subst (λ v. IsMachineSound t v) (sym same) (subst (λ (u : Sys). IsMachineSound u table) (sym kept) h) where
+  by : (es : List Due) → first es ≡ None → rest es ≡ es
+  by [] e = refl
+  by (x ∷ xs) e = absurd (cc)
+
 -- the first event is replayed, if there is one
 pub first_replayed : (s : Sys) (table : List Slot) → IsMachineSound s table → IsRunReplayed s (fire_first s)
 unfolding timed_run

@@ -1,6 +1,6 @@
 use Rattle.std.proofs.Common.{sym, ◌∙◌, ap}
 use Rattle.gm_words.specs.Entries.{console_of}
-use Rattle.kernel.proofs.Runs.{pop_may, byte_few, fired_sys, fired_entries, fired_sound, first_replayed, first_early}
+use Rattle.kernel.proofs.Runs.{none_pending, pop_may, byte_few, fired_sys, fired_entries, fired_sound, first_replayed, first_early}
 use Rattle.kernel.proofs.machine.Machine.fire.Goals as goal
 
 pub returns-in_err-due-clause-replay : goal.returns-in_err-due-clause-replay
@@ -46,3 +46,8 @@ returns-clause-machine g c =
       sound = fired_sound _ _ c.in_ok-due.due _ c.requires.machine.sound c.requires.events (sym e.first) (first_early c.args.self.now.queue.pending c.in_ok-due.due (sym e.first) c.requires.tick)
           e.rest _ _ c.serve.ensures.served (c.serve.ensures.table ∙ e.table);
     }
+
+pub returns-in_err-due-clause-machine : goal.returns-in_err-due-clause-machine
+returns-in_err-due-clause-machine g c =
+    let e = c.in_err-due.ensures in
+    record { sound = none_pending _ _ _ _ (sym e.first) e.rest e.table c.requires.machine.sound }

@@ -1,8 +1,8 @@
-use Rattle.std.proofs.Common.{sym, subst}
+use Rattle.std.proofs.Common.{sym, subst, ◌∙◌}
 use Rattle.gm_model.specs.Deliver.{Delivery}
 use Rattle.gm_words.specs.declared.wake.Wake.TheVariants as wakes
 use Rattle.kernel.specs.Ready.{IsReadyForWake}
-use Rattle.kernel.proofs.Delivered.{countable}
+use Rattle.kernel.proofs.Delivered.{countable, begun_under_way}
 use Rattle.kernel.proofs.machine.Machine.serve.Goals as goal
 
 pub wake-requires-clause-ready : goal.wake-requires-clause-ready
@@ -22,3 +22,7 @@ pub count-requires-clause-few : goal.count-requires-clause-few
 count-requires-clause-few g c =
     let k = (countable _ _ _ _ _ _ c.requires c.begin.ensures.begun c.wake.ensures.delivered c.deliver.ensures.delivered).few in
     rw c.entries.ensures k
+
+pub deliver-requires : goal.deliver-requires
+deliver-requires g c =
+    begun_under_way _ _ _ _ _ _ c.requires c.begin.ensures.begun c.wake.ensures.delivered (c.wake.ensures.table ∙ c.begin.ensures.table)
