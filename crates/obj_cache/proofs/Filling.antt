@@ -28,7 +28,8 @@ evicting-registers (Some v) now rs m = by v.dirty where
   by true = refl
   by false = refl
 
-come_in_set : Line → CacheMoved → CacheMoved
+-- a line is in its set
+abbrev pub come_in_set : Line → CacheMoved → CacheMoved
 come_in_set l m = record m { cache = with_come l m.cache }
 
 installing-registers : (l : Line) (now : ℕ) (rs : List Register) (m : CacheMoved) → installing l now (with_registers rs m) ≡ with_registers rs (installing l now m)
@@ -151,7 +152,7 @@ returns_other y now s s' q q' o o' e h =
 
 -- Room.
 
-queued_length : (items : List Queued) → length (queued_packets items) ≡ length items
+pub queued_length : (items : List Queued) → length (queued_packets items) ≡ length items
 queued_length [] = refl
 queued_length (x ∷ xs) = ap (λ n. suc n) (queued_length xs)
 

@@ -8,5 +8,7 @@ mod cache;
 mod leaving;
 mod lines;
 mod registers;
+#[cfg(test)]
+mod tests;
 
 pub use cache::Cache;

@@ -1,0 +1,3 @@
+pub mod CachePorts
+pub mod CacheParts
+pub mod Caches
