@@ -71,7 +71,7 @@ ends s w answer m b = by m.cache.waiter (is_blocked m.cache) refl refl where
         due = b.due;
         conserves = b.conserves;
         spends = record { few = b.few; light = omega (arith, b.light) };
-        same = record { cpu = refl; instant = refl; empty = λ e. absurd (cc e) };
+        same = record { cpu = refl; instant = refl; caches = refl; empty = λ e. absurd (cc e) };
         quiet = λ p h. (let q = b.quiet p h in record { entries = q.0; moves = q.1; passed = b.passed; mind = refl; memory = refl });
         acts = b.acts;
         hops = no_pass (cache_face s) m.acts b.passed;
@@ -101,7 +101,7 @@ ends s w answer m b = by m.cache.waiter (is_blocked m.cache) refl refl where
           few = λ p. omega (arith, b.few p, offers-append p m.acts (call_at above ∷ []));
           light = omega (arith, b.room e f, weight-append m.acts (call_at above ∷ []));
         };
-        same = record { cpu = refl; instant = refl; empty = λ k. absurd (cc k) };
+        same = record { cpu = refl; instant = refl; caches = refl; empty = λ k. absurd (cc k) };
         quiet = λ p h. (let q = b.quiet p h in record { entries = q.0; moves = q.1; passed = called_passed m.acts ∙ b.passed; mind = refl; memory = refl });
         acts = called_acts m.acts b.acts;
         hops = no_pass (cache_face s) (m.acts ++ call_at above ∷ []) (called_passed m.acts ∙ b.passed);
@@ -171,7 +171,7 @@ denied s next x now ok may e tags =
       due = same;
       conserves = record { kept = packets_in s; before = λ h k. omega arith; after = λ h k. omega arith; numbers = λ h k. refl };
       spends = record { few = λ p. omega arith; light = omega arith };
-      same = record { cpu = refl; instant = refl; empty = λ k. absurd (cc k) };
+      same = record { cpu = refl; instant = refl; caches = refl; empty = λ k. absurd (cc k) };
       quiet = λ p h. absurd (omega (arith, h));
       acts = tt;
       hops = tt;
@@ -525,7 +525,7 @@ module _ (s : CacheState) (ok : IsCacheOk s) (next now : ℕ) where
       due = λ n. refl;
       conserves = record { kept = packets_in s; before = λ h k. omega arith; after = λ h k. omega arith; numbers = λ h k. refl };
       spends = record { few = λ p. omega arith; light = omega arith };
-      same = record { cpu = refl; instant = refl; empty = λ k. absurd (cc k) };
+      same = record { cpu = refl; instant = refl; caches = refl; empty = λ k. absurd (cc k) };
       quiet = λ p h. absurd (omega (arith, h));
       acts = tt;
       hops = tt;
@@ -536,7 +536,7 @@ module _ (s : CacheState) (ok : IsCacheOk s) (next now : ℕ) where
       due = λ n. refl;
       conserves = record { kept = packets_in s; before = λ h k. omega arith; after = λ h k. omega arith; numbers = λ h k. refl };
       spends = record { few = λ p. omega arith; light = omega arith };
-      same = record { cpu = refl; instant = refl; empty = λ k. absurd (cc k) };
+      same = record { cpu = refl; instant = refl; caches = refl; empty = λ k. absurd (cc k) };
       quiet = λ p h. absurd (omega (arith, h));
       acts = tt;
       hops = tt;

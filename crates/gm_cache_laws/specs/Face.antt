@@ -48,7 +48,7 @@ abbrev pub is_eager : CacheState → Bool
 is_eager s = s.waiter && not (is_blocked s)
 
 abbrev pub cache_face : CacheState → Face
-cache_face s = record (cache_ports s) { hungry = λ k. (k == 0) && is_eager s }
+cache_face s = record (cache_ports s) { hungry = λ k. (k == 0) && is_eager s; caches = true }
 
 -- what holds of its lines and registers, by which who waits for a line is a request; each queue is a flow, of responses above and of
 -- requests below; and somebody waits only where the cache is blocked

@@ -73,9 +73,9 @@ pub none_pending : (s t : Sys) (table table' : List Slot) → first s.pending �
 none_pending s t table table' none taken same h =
     let kept : t ≡ s = taken ∙ ap (λ es. let u : Sys = record s { pending = es } in u) (by s.pending none) in
     subst (λ v. IsMachineSound t v) (sym same) (subst (λ (u : Sys). IsMachineSound u table) (sym kept) h) where
-  by : (es : List Due) → first es ≡ None → rest es ≡ es
-  by [] e = refl
-  by (x ∷ xs) e = absurd (cc)
+      by : (es : List Due) → first es ≡ None → rest es ≡ es
+      by [] e = refl
+      by (x ∷ xs) e = absurd (cc)
 
 -- the first event is replayed, if there is one
 pub first_replayed : (s : Sys) (table : List Slot) → IsMachineSound s table → IsRunReplayed s (fire_first s)
